@@ -1,0 +1,6 @@
+pub mod DigitLaws
+pub mod PayloadLaws
+pub mod CopyLaws
+pub mod OwnerLaws
+pub mod MaskLaws
+pub mod Cases

@@ -2,7 +2,7 @@
 -- Assumes nothing.
 use mathlib.Core.Path.{_≡_, refl, sym, ap, _∙_}
 use mathlib.Core.Logic.{_≢_, _↔_, ⊎-elim}
-use mathlib.Core.Bool.{true, false, _||_, true≢false, false≢true}
+use mathlib.Core.Bool.{Bool, true, false, _||_, true≢false, false≢true}
 use Prim.Native.Nat.{ℕ, zero, suc, _+_, _/_, _%_, _^_, _≤_, _<_}
 use native.Mathlib.Nat.{pow-suc}
 use native.Mathlib.Decide.{ℕ-discrete}
@@ -11,7 +11,9 @@ use borrow.Author.Tests.{eqb-true, eq-eqb}
 use lib.Count.{ones, ones-step}
 use lib.Dec.{eqb}
 use Rattle.bits.specs.Digit.{digit, setDigit}
-use Rattle.bits.specs.Owners.{owners, owned, clash}
+use Rattle.base.proofs.Picks.{picks, passes}
+use Rattle.bits.specs.Owners.{owners, owned, clash, joined}
+use Rattle.bits.specs.declared.owners.Joined.the-variants.{Set, Clash}
 use Rattle.bits.proofs.DigitLaws.{digit-zero, digit-suc, digit-lt, digit-set-same, digit-set-other, setDigit-lt}
 use Rattle.bits.proofs.CopyLaws.{either, neither, or-right}
 
@@ -64,6 +66,25 @@ module _ (set p : ℕ) where
   clash-none s k c l =
       let taken : digit set (p + k) ≢ 1 = λ d. true≢false (sym (clash-one s k l d) ∙ c) in
       omega (arith, digit-lt set (p + k))
+
+-- ---- what joining answers
+
+module _ (set p s : ℕ) where
+  pub joined-clash : joined set p s ≡ Clash → clash set p s ≡ true
+  unfolding joined
+  joined-clash e = at (clash set p s) refl
+    where
+      at : (b : Bool) → clash set p s ≡ b → clash set p s ≡ true
+      at true c = c
+      at false c = let z : _≡_ {A = ℕ} 0 1 = cc (sym (passes _ Clash (Set (owned set p s)) c) ∙ e) in absurd (omega arith)
+
+  pub joined-set : (n : ℕ) → joined set p s ≡ Set n → (clash set p s ≡ false) × (n ≡ owned set p s)
+  unfolding joined
+  joined-set n e = at (clash set p s) refl
+    where
+      at : (b : Bool) → clash set p s ≡ b → (clash set p s ≡ false) × (n ≡ owned set p s)
+      at false c = let x = sym (passes _ Clash (Set (owned set p s)) c) ∙ e in (c, (cc))
+      at true c = let z : _≡_ {A = ℕ} 0 1 = cc (sym (picks _ Clash (Set (owned set p s)) c) ∙ e) in absurd (omega arith)
 
 -- ---- the count
 

@@ -1,0 +1,142 @@
+-- What a good plan is, in document 01's words: facts about its records, its rows and their claims, with nothing of how the check goes.
+use mathlib.Core.Path.{_≡_}
+use mathlib.Core.Bool.{true}
+use mathlib.Core.List.{List, [], _∷_}
+use Prim.Native.Nat.{ℕ, suc, _+_, _*_, _≤_, _<_}
+use lib.Dec.{eqb}
+use lib.ListN.{length, getD}
+use Rattle.base.specs.Pick.{pick}
+use Rattle.records.specs.declared.record.TxFrame.{TxFrame}
+use Rattle.records.specs.declared.record.RxFrame.{RxFrame}
+use Rattle.records.specs.declared.record.Record.{Record}
+use Rattle.records.specs.declared.record.Record.the-variants.{Head, Node, Tx, Rx, Signal, Destination, BadKind, Cut, End}
+use Rattle.records.specs.Records.{kindOf, records}
+use Rattle.plan.specs.Progress.{keyOf}
+use Rattle.plan.specs.Tests.{isKind, isWhole, mayStand, inRange}
+use Rattle.plan.specs.Rows.{widthOf, Claim, Row, rowsOf, claimsOf, txOf, nodesIn}
+
+-- of each element
+unfoldable pub Each {ℓ} : {A : Type ℓ} → (A → Type 0) → List A → Type 0
+Each P [] = Unit {0}
+Each P (x ∷ xs) = P x × Each P xs
+
+-- of each record, with the records that follow it
+unfoldable pub Along : (Record → List Record → Type 0) → List Record → Type 0
+Along P [] = Unit {0}
+Along P (r ∷ rs) = P r rs × Along P rs
+
+-- ---- "One head first, then nodes, then Tx frames, then Rx frames, each followed by its signals, each followed by its destinations."
+
+-- a whole record of a known kind that may stand after one of kind `last`, which is 0 if there is none
+pub record Placed (last : ℕ) (r : Record) : Type 0 where
+  pub known : isKind r ≡ true
+  pub whole : isWhole r ≡ true
+  pub stands : mayStand last r ≡ true
+
+unfoldable pub InPlace : ℕ → List Record → Type 0
+InPlace last [] = Unit {0}
+InPlace last (r ∷ rs) = Placed last r × InPlace (kindOf r) rs
+
+-- ---- "At most 16 nodes, 256 Tx frames, 256 Rx frames, 1,024 signals (64 in a frame), 2,048 destinations (15 for a signal)."
+
+-- how many records of a kind there are
+unfoldable pub countOf : ℕ → List Record → ℕ
+countOf kind [] = 0
+countOf kind (r ∷ rs) = pick (eqb (kindOf r) kind) 1 0 + countOf kind rs
+
+-- how many signals an Rx frame has, and how many destinations a signal has, by the records after it
+unfoldable pub signalsOf : List Record → ℕ
+signalsOf [] = 0
+signalsOf (r ∷ rs) = pick (eqb (kindOf r) 5) (suc (signalsOf rs)) (pick (eqb (kindOf r) 6) (signalsOf rs) 0)
+
+unfoldable pub destinationsOf : List Record → ℕ
+destinationsOf [] = 0
+destinationsOf (r ∷ rs) = pick (eqb (kindOf r) 6) (suc (destinationsOf rs)) 0
+
+pub record Few (r : Record) (rs : List Record) : Type 0 where
+  pub signals : kindOf r ≡ 4 → signalsOf rs ≤ 64
+  pub destinations : kindOf r ≡ 5 → destinationsOf rs ≤ 15
+
+pub record Counted (plan : List ℕ) : Type 0 where
+  pub nodes : nodesIn (records plan) ≤ 16
+  pub tx : length (txOf plan) ≤ 256
+  pub rx : length (rowsOf plan) ≤ 256
+  pub signals : countOf 5 (records plan) ≤ 1024
+  pub destinations : countOf 6 (records plan) ≤ 2048
+  pub few : Along Few (records plan)
+
+-- ---- "Ranges: order 0–1; type 0; node below the node count; .." The node count is the plan's.
+
+abbrev pub InRange : List ℕ → Type 0
+InRange plan = Each (λ r. inRange (nodesIn (records plan)) r ≡ true) (records plan)
+
+-- ---- 6: "an Rx frame's (node, ID) is not above that of the one before": here each is above those of all rows before it
+
+unfoldable pub Rising : List Row → Type 0
+Rising [] = Unit {0}
+Rising (r ∷ rs) = Each (λ s. keyOf (r .frame) < keyOf (s .frame)) rs × Rising rs
+
+-- ---- 7: "a signal .. passes its frame's data": here none does. `room` is how many bits the data of the Rx frame that is being read has.
+
+unfoldable pub SignalsFit : ℕ → List Record → Type 0
+SignalsFit room [] = Unit {0}
+SignalsFit room (Rx x ∷ rs) = SignalsFit (8 * x .size) rs
+SignalsFit room (Signal p s ∷ rs) = (p + s ≤ room) × SignalsFit room rs
+SignalsFit room (Head order ∷ rs) = SignalsFit room rs
+SignalsFit room (Node type ∷ rs) = SignalsFit room rs
+SignalsFit room (Tx frame ∷ rs) = SignalsFit room rs
+SignalsFit room (Destination t q ∷ rs) = SignalsFit room rs
+SignalsFit room (BadKind ∷ rs) = SignalsFit room rs
+SignalsFit room (Cut kind ∷ rs) = SignalsFit room rs
+SignalsFit room (End ∷ rs) = SignalsFit room rs
+
+-- ---- 7: "a .. destination passes its frame's data, or the Tx frame does not exist", and 9: "or its position passes the Tx data": here none does,
+-- of the claims of the destinations and of the failure bits. The sizes are those of the Tx frames.
+
+unfoldable pub sizesOf : List TxFrame → List ℕ
+sizesOf [] = []
+sizesOf (x ∷ xs) = x .size ∷ sizesOf xs
+
+pub record Fits (sizes : List ℕ) (c : Claim) : Type 0 where
+  pub exists : c .tx < length sizes
+  pub inside : c .at + widthOf (c .from) ≤ 8 * getD sizes (c .tx) 0
+
+-- ---- "No bit has two owners."
+
+-- a claim holds bit b of Tx frame t
+pub record Holds (c : Claim) (t b : ℕ) : Type 0 where
+  pub frame : c .tx ≡ t
+  pub low : c .at ≤ b
+  pub high : b < c .at + widthOf (c .from)
+
+-- no claim holds the bit
+abbrev pub Free : List Claim → ℕ → ℕ → Type 0
+Free cs t b = Each (λ c. Holds c t b → ⊥) cs
+
+-- no bit that a claim holds is held by a later one
+unfoldable pub Once : List Claim → Type 0
+Once [] = Unit {0}
+Once (c ∷ cs) = ((t b : ℕ) → Holds c t b → Free cs t b) × Once cs
+
+-- ---- 9: "an enabled indicator's Rx frame is not followed at once by a signal and a destination (judged by kind byte)": here each is
+
+-- the kind of the record at a place, 0 past the end
+abbrev pub kindAt : ℕ → List Record → ℕ
+kindAt k rs = kindOf (getD rs k End)
+
+abbrev pub Followed : Record → List Record → Type 0
+Followed r rs = (x : RxFrame) → r ≡ Rx x → x .enable ≡ 1 → (kindAt 0 rs ≡ 5) × (kindAt 1 rs ≡ 6)
+
+-- ---- a good plan
+
+-- 1 to 9 in their order, but for 2, 1 and 3, which stand together in `place`, and the second half of 9, which stands in `fits`
+pub record GoodPlan (plan : List ℕ) : Type 0 where
+  pub nonempty : 0 < length (records plan)
+  pub place : InPlace 0 (records plan)
+  pub counts : Counted plan
+  pub ranges : InRange plan
+  pub rising : Rising (rowsOf plan)
+  pub signals : SignalsFit 0 (records plan)
+  pub fits : Each (Fits (sizesOf (txOf plan))) (claimsOf plan)
+  pub once : Once (claimsOf plan)
+  pub followed : Along Followed (records plan)

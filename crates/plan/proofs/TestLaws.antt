@@ -1,0 +1,66 @@
+-- What a test that is passed says of the fields. Assumes nothing.
+use mathlib.Core.Path.{_≡_, refl}
+use mathlib.Core.Bool.{Bool, true, false, _&&_, false≢true}
+use Prim.Native.Nat.{ℕ, _≤_, _<_}
+use borrow.Author.Tests.{ltb-true, leb-true}
+use Rattle.records.specs.declared.record.TxFrame.{TxFrame}
+use Rattle.records.specs.declared.record.RxFrame.{RxFrame}
+use Rattle.plan.specs.Tests.{isPrescaler, zeroPast, txInRange, rxInRange}
+
+-- two tests that are passed together are passed
+pub and-both : (x y : Bool) → (x && y) ≡ true → (x ≡ true) × (y ≡ true)
+and-both true y e = (refl, e)
+and-both false y e = absurd (false≢true e)
+
+pub record TxRanges (nodes : ℕ) (x : TxFrame) : Type 0 where
+  pub node : x .node < nodes
+  pub id : x .id < 2048
+  pub size : x .size ≤ 8
+  pub prescaler : isPrescaler (x .prescaler) ≡ true
+  pub flags : x .flags ≤ 3
+  pub payload : zeroPast (x .size) (x .payload) ≡ true
+
+pub tx-ranges : (nodes : ℕ) (x : TxFrame) → txInRange nodes x ≡ true → TxRanges nodes x
+unfolding txInRange
+tx-ranges nodes x e =
+    let a = and-both _ _ e in
+    let b = and-both _ _ (a .0) in
+    let c = and-both _ _ (b .0) in
+    let d = and-both _ _ (c .0) in
+    let f = and-both _ _ (d .0) in
+    record {
+      node = ltb-true _ _ (f .0);
+      id = ltb-true _ _ (f .1);
+      size = leb-true _ _ (d .1);
+      prescaler = c .1;
+      flags = leb-true _ _ (b .1);
+      payload = a .1;
+    }
+
+pub record RxRanges (nodes : ℕ) (x : RxFrame) : Type 0 where
+  pub node : x .node < nodes
+  pub id : x .id < 2048
+  pub size : x .size ≤ 8
+  pub prescaler : isPrescaler (x .prescaler) ≡ true
+  pub enable : x .enable ≤ 1
+  pub position : x .position ≤ 63
+  pub long : x .long ≤ 15
+
+pub rx-ranges : (nodes : ℕ) (x : RxFrame) → rxInRange nodes x ≡ true → RxRanges nodes x
+unfolding rxInRange
+rx-ranges nodes x e =
+    let a = and-both _ _ e in
+    let b = and-both _ _ (a .0) in
+    let c = and-both _ _ (b .0) in
+    let d = and-both _ _ (c .0) in
+    let f = and-both _ _ (d .0) in
+    let g = and-both _ _ (f .0) in
+    record {
+      node = ltb-true _ _ (g .0);
+      id = ltb-true _ _ (g .1);
+      size = leb-true _ _ (f .1);
+      prescaler = d .1;
+      enable = leb-true _ _ (c .1);
+      position = leb-true _ _ (b .1);
+      long = leb-true _ _ (a .1);
+    }

@@ -1,0 +1,12 @@
+-- `plan::tests::rx_in_range` meets its contract: it is the definition. Assumes nothing.
+use Rattle.plan.specs.Tests.{rxInRange}
+use borrow.Author.Needs.{needs}
+use Rattle.plan.proofs.tests.rx_in_range.Statement.{statement}
+use Rattle.plan.proofs.tests.rx_in_range.Tie as tie
+
+returns : tie.Need-returns
+unfolding rxInRange
+returns c = rw (c .before .before .before .before .before .is-prescaler .ensures, c .before .before .before .before .before .before .wide .ensures .0)
+
+pub rx-in-range-spec : {M : Type 1} → statement M
+rx-in-range-spec = tie.close (tie.spec (λ c κs. search needs) (λ c κs. search needs) returns)

@@ -1,0 +1,13 @@
+-- `plan::tests::tx_in_range` meets its contract: it is the definition. Assumes nothing.
+use Rattle.plan.specs.Tests.{txInRange}
+use borrow.Author.Needs.{needs}
+use Rattle.plan.proofs.tests.tx_in_range.Statement.{statement}
+use Rattle.plan.proofs.tests.tx_in_range.Tie as tie
+
+returns : tie.Need-returns
+unfolding txInRange
+returns c = rw (c .before .before .before .zero-past .ensures, c .before .before .before .before .before .is-prescaler .ensures, c .before .before .before .before .before .before .wide .ensures .0)
+
+pub tx-in-range-spec : {M : Type 1} → statement M
+tx-in-range-spec =
+    tie.close (tie.spec (λ c κs. search needs) (λ c κs. search needs) (λ c κs. search needs) returns)

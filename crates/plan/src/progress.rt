@@ -1,0 +1,43 @@
+// How far the check has come.
+use crate::verdict::Reason;
+
+// How many records of each kind were read.
+pub struct Counts {
+    pub nodes: usize,
+    pub tx: usize,
+    pub rx: usize,
+    pub signals: usize,
+    pub destinations: usize,
+}
+
+// The Rx frame that is being read.
+pub struct Row {
+    // the lowest key that the next Rx frame may have
+    pub floor: usize,
+    // how many bits its data has
+    pub room: usize,
+    // how many signals it has so far, the last one's size, and how many destinations that one has
+    pub signals: usize,
+    pub size: usize,
+    pub destinations: usize,
+    // the kind that must follow at once, 0 if none must; the failure position, and the number of the Rx frame's record
+    pub awaits: u8,
+    pub position: u8,
+    pub source: usize,
+}
+
+pub struct Progress {
+    // where the next record begins, and its number
+    pub at: usize,
+    pub number: usize,
+    // the kind of the record before, 0 if there is none
+    pub last: u8,
+    pub counts: Counts,
+    pub row: Row,
+}
+
+// What a record does: the check goes on, or the plan is refused.
+pub enum Next {
+    Go(Progress),
+    Refuse { reason: Reason, record: usize },
+}

@@ -1,0 +1,72 @@
+// Tests of a frame's fields, and what an indicator awaits.
+use records::record::Eight;
+use records::record::RxFrame;
+use records::record::TxFrame;
+ghost use mathlib.Core.Path.{_≡_};
+ghost use lib.Dec.{eqb};
+ghost use Rattle.base.specs.Pick.{pick};
+ghost use Rattle.plan.specs.Tests.{isPrescaler, zeroPast, txInRange, rxInRange};
+
+fn is_prescaler(p: u8) -> bool
+    ensures { λ r. ⌜ r ≡ isPrescaler p ⌝ }
+{
+    (p == 1) | (p == 2) | (p == 10) | (p == 20)
+}
+
+// Whether the bytes past the size are zero.
+fn zero_past(size: u8, b: Eight) -> bool
+    ensures { λ r. ⌜ r ≡ zeroPast size b ⌝ }
+{
+    ((0 < size) | (b.0 == 0))
+        & ((1 < size) | (b.1 == 0))
+        & ((2 < size) | (b.2 == 0))
+        & ((3 < size) | (b.3 == 0))
+        & ((4 < size) | (b.4 == 0))
+        & ((5 < size) | (b.5 == 0))
+        & ((6 < size) | (b.6 == 0))
+        & ((7 < size) | (b.7 == 0))
+}
+
+pub fn tx_in_range(nodes: usize, x: TxFrame) -> bool
+    ensures { λ r. ⌜ r ≡ txInRange nodes x ⌝ }
+{
+    let node = base::wide(x.node);
+    let prescaled = is_prescaler(x.prescaler);
+    let payload = x.payload;
+    let zero = zero_past(x.size, payload);
+    (node < nodes) & (x.id < 2048) & (x.size <= 8) & prescaled & (x.flags <= 3) & zero
+}
+
+pub fn rx_in_range(nodes: usize, x: RxFrame) -> bool
+    ensures { λ r. ⌜ r ≡ rxInRange nodes x ⌝ }
+{
+    let node = base::wide(x.node);
+    let prescaled = is_prescaler(x.prescaler);
+    (node < nodes)
+        & (x.id < 2048)
+        & (x.size <= 8)
+        & prescaled
+        & (x.enable <= 1)
+        & (x.position <= 63)
+        & (x.long <= 15)
+}
+
+// The kind that must follow an Rx frame at once: a signal, where its indicator is enabled.
+pub fn awaited_by(enable: u8) -> u8
+    ensures { λ r. ⌜ r ≡ pick (eqb enable 1) 5 0 ⌝ }
+{
+    if enable == 1 {
+        return 5;
+    }
+    0
+}
+
+// The kind that must follow a signal at once: a destination, where the signal itself was awaited.
+pub fn awaited_after(awaits: u8) -> u8
+    ensures { λ r. ⌜ r ≡ pick (eqb awaits 0) 0 6 ⌝ }
+{
+    if awaits == 0 {
+        return 0;
+    }
+    6
+}

@@ -1,0 +1,16 @@
+-- `records::decode::rx_at` meets its contract: each field is the byte, or the bytes, that the definition names. Assumes nothing.
+use borrow.Author.Needs.{needs}
+use Rattle.records.specs.Records.{rxAt}
+use Rattle.records.proofs.decode.rx_at.Statement.{statement}
+use Rattle.records.proofs.decode.rx_at.Tie as tie
+
+returns : tie.Need-returns
+unfolding rxAt
+returns c = rw (c .before .before .before .before .before .before .before .two-at .ensures .0)
+
+pub rx-at-spec : {M : Type 1} → statement M
+rx-at-spec =
+    tie.close
+    (tie.spec (λ c. search needs) (λ c. search needs) (λ c. search needs) (λ c κs. search needs) (λ c. search needs) (λ c. search needs) (λ c. search needs)
+    (λ c. search needs) (λ c. search needs) (λ c. search needs) (λ c. search needs) (λ c. search needs) (λ c. search needs) (λ c. search needs)
+    (λ c. search needs) (λ c. search needs) (λ c. search needs) (λ c. search needs) returns)

@@ -1,0 +1,56 @@
+// What a record says, as a value.
+
+// The number of an Rx frame, and that of a Tx frame: they count separate tables, and one never stands for the other.
+pub struct RxNumber(pub usize);
+
+pub struct TxNumber(pub usize);
+
+// The eight bytes of an initial payload.
+pub struct Eight(
+    pub u8,
+    pub u8,
+    pub u8,
+    pub u8,
+    pub u8,
+    pub u8,
+    pub u8,
+    pub u8,
+);
+
+pub struct TxFrame {
+    pub node: u8,
+    pub id: usize,
+    pub size: u8,
+    pub prescaler: u8,
+    pub reload: u8,
+    pub initial: u8,
+    pub flags: u8,
+    pub payload: Eight,
+}
+
+pub struct RxFrame {
+    pub node: u8,
+    pub id: usize,
+    pub size: u8,
+    pub prescaler: u8,
+    pub reload: u8,
+    pub initial: u8,
+    pub enable: u8,
+    pub position: u8,
+    pub long: u8,
+}
+
+pub enum Record {
+    Head { order: u8 },
+    Node { of: u8 },
+    Tx(TxFrame),
+    Rx(RxFrame),
+    Signal { position: u8, size: u8 },
+    Destination { tx: TxNumber, position: u8 },
+    // the kind byte is not 1 to 6
+    BadKind,
+    // a record of this kind begins here and runs past the plan's end
+    Cut { kind: u8 },
+    // the plan ends here
+    End,
+}

@@ -1,7 +1,7 @@
--- One turn of the check: where it stands, the rest of the records decides as the whole plan does. Assumes nothing.
+-- One turn of the check: where it stands, the rest of the records decides and joins as the whole plan does. Assumes nothing.
 use mathlib.Core.Path.{_≡_, refl, sym, _∙_}
 use mathlib.Core.Bool.{_&&_}
-use mathlib.Core.List.{List}
+use mathlib.Core.List.{List, [], _∷_}
 use Prim.Native.Nat.{ℕ, zero, suc, _+_, _-_, _^_, _≤_, _<_}
 use native.Mathlib.Omega.{arith}
 use borrow.Author.Tests.{leb-true, ltb-true}
@@ -12,14 +12,15 @@ use Rattle.records.specs.declared.record.Record.the-variants.{Head, Node, Tx, R
 use Rattle.records.specs.Records.{recordAt, recordsAt, records, kindOf, sizeOf, Within}
 use Rattle.records.proofs.RecordLaws.{records-end, records-step}
 use Rattle.plan.specs.declared.verdict.Reason.{Reason}
-use Rattle.plan.specs.declared.verdict.Verdict.the-variants.{Refused}
+use Rattle.plan.specs.declared.verdict.Verdict.{Verdict}
+use Rattle.plan.specs.declared.verdict.Verdict.the-variants.{Good, Refused}
 use Rattle.plan.specs.declared.progress.Row.{Row}
 use Rattle.plan.specs.declared.progress.Progress.{Progress}
 use Rattle.plan.specs.declared.progress.Next.{Next}
 use Rattle.plan.specs.declared.progress.Next.the-variants.{Go, Refuse}
 use Rattle.plan.specs.Progress.{counted, rowAfter, after, start}
 use Rattle.plan.specs.Tests.{isKind, isWhole, mayStand, hasRoom, inRange}
-use Rattle.plan.specs.Check.{judged, sizesAfter, setsAfter, ended, verdictOf, checkOn, checkPlan}
+use Rattle.plan.specs.Check.{judged, sizesAfter, setsAfter, ended, verdictOf, checkOn, checkPlan, setsUnless, setsOn, setsOf, setsFold}
 use Rattle.plan.specs.Motion.{Fair, Tables, sizesThen, setsThen}
 use Rattle.plan.proofs.TestLaws.{and-both}
 use Rattle.plan.proofs.CheckLaws.{Passed, passed}
@@ -135,6 +136,7 @@ pub record Stands (plan : List ℕ) (p : Progress) (sizes sets : List ℕ) : Typ
   pub long : length sets ≡ 256
   pub inside : p .at ≤ length plan
   pub rest : checkOn p sizes sets (recordsAt plan (p .at)) ≡ checkPlan plan
+  pub joins : setsOn p sizes sets (recordsAt plan (p .at)) ≡ setsOf plan
 
 zeros : (n i : ℕ) → getD (replicate n 0) i 0 ≤ 8
 zeros zero i = omega arith
@@ -142,7 +144,7 @@ zeros (suc n) zero = omega arith
 zeros (suc n) (suc i) = zeros n i
 
 pub begins : (plan : List ℕ) → Stands plan start (replicate 256 0) (replicate 256 0)
-unfolding checkPlan records start
+unfolding checkPlan setsOf records start
 begins plan = record {
   fair = record {
     at = omega arith;
@@ -161,48 +163,86 @@ begins plan = record {
   long = length-replicate {A = ℕ} 256 0;
   inside = omega arith;
   rest = refl;
+  joins = refl;
 }
 
 -- at the end
-pub ends : (plan : List ℕ) (p : Progress) (sizes sets : List ℕ) → Stands plan p sizes sets → length plan ≤ p .at → ended p ≡ checkPlan plan
-unfolding checkOn
-ends plan p sizes sets s h = rw (records-end plan (p .at) h) at (s .rest)
+pub ends :
+    (plan : List ℕ) (p : Progress) (sizes sets : List ℕ) → Stands plan p sizes sets → length plan ≤ p .at
+    → (ended p ≡ checkPlan plan) × (sets ≡ setsOf plan)
+unfolding checkOn setsOn
+ends plan p sizes sets s h = let end = records-end plan (p .at) h in (rw end at (s .rest), rw end at (s .joins))
 
--- at a record, and what it does
-module _
-    (plan : List ℕ) (p : Progress) (sizes sets : List ℕ) (r : Record) (next : Next) (short : length plan < 2 ^ 63) (here : p .at < length plan)
-    (read : r ≡ recordAt plan (p .at)) (within : Within plan (p .at) r) (done : next ≡ judged p sizes sets r) (s : Stands plan p sizes sets)
-  where
-    more :
-        verdictOf next (checkOn (after p r) (sizesAfter (p .counts .tx) sizes r) (setsAfter (p .row) sets r) (recordsAt plan (p .at + sizeOf r)))
-        ≡ checkPlan plan
-    unfolding checkOn
-    more = rw (done, read) (rw (records-step plan (p .at) here) at (s .rest))
+-- a record that was read there and judged
+pub record Turned (plan : List ℕ) (p : Progress) (sizes sets : List ℕ) (r : Record) (next : Next) : Type 0 where
+  pub short : length plan < 2 ^ 63
+  pub here : p .at < length plan
+  pub read : r ≡ recordAt plan (p .at)
+  pub within : Within plan (p .at) r
+  pub done : next ≡ judged p sizes sets r
+  pub stood : Stands plan p sizes sets
 
-    pub refuses : (a : Reason) (n : ℕ) → next ≡ Refuse a n → Refused a n ≡ checkPlan plan
-    unfolding verdictOf
-    refuses a n is = rw is at more
+-- what a definition over the records makes of those after it
+abbrev onRest : {A : Type 0} → List ℕ → Progress → List ℕ → List ℕ → Record → (Progress → List ℕ → List ℕ → List Record → A) → A
+onRest plan p sizes sets r f = f (after p r) (sizesAfter (p .counts .tx) sizes r) (setsAfter (p .row) sets r) (recordsAt plan (p .at + sizeOf r))
 
-    pub goes :
-        (q : Progress) → next ≡ Go q → (sizes′ sets′ : List ℕ) → sizes′ ≡ sizesThen next p sizes r → Tables sizes′ → sets′ ≡ setsThen next p sets r
-        → Stands plan q sizes′ sets′
-    unfolding verdictOf after
-    goes q is sizes′ sets′ es t et =
-        let pass = passed p sizes sets r q (sym done ∙ is) in
-        let es′ : sizes′ ≡ sizesAfter (p .counts .tx) sizes r = rw is at es in
-        let et′ : sets′ ≡ setsAfter (p .row) sets r = rw is at et in
-        let room : p .at + sizeOf r ≤ length plan = within .room (omega arith) in
-        rw (pass .1, et′, es′)
-        (record {
-          fair = fair-after p sizes sets r (s .fair) (pass .0) (omega arith);
-          tables = rw es′ at t;
-          long = sets-length (p .row) sets r ∙ s .long;
-          inside = room;
-          rest = rw is at more;
-        })
+module _ {plan : List ℕ} {p : Progress} {sizes sets : List ℕ} {r : Record} {next : Next} (t : Turned plan p sizes sets r next) where
+  decides : verdictOf next (onRest plan p sizes sets r checkOn) ≡ checkPlan plan
+  unfolding checkOn
+  decides = rw (t .done, t .read) (rw (records-step plan (p .at) (t .here)) at (t .stood .rest))
 
-    pub falls : (q : Progress) → next ≡ Go q → length plan - q .at < length plan - p .at
-    unfolding after
-    falls q is =
-        let pass = passed p sizes sets r q (sym done ∙ is) in
-        rw (pass .1) (omega (arith, within .before here))
+  joined : setsUnless next sets (onRest plan p sizes sets r setsOn) ≡ setsOf plan
+  unfolding setsOn
+  joined = rw (t .done, t .read) (rw (records-step plan (p .at) (t .here)) at (t .stood .joins))
+
+  pub refuses :
+      {a : Reason} {n : ℕ} {sets′ : List ℕ} → next ≡ Refuse a n → sets′ ≡ setsThen next p sets r
+      → (Refused a n ≡ checkPlan plan) × (sets′ ≡ setsOf plan)
+  unfolding verdictOf setsUnless
+  refuses is et = (rw is at decides, (rw is at et) ∙ (rw is at joined))
+
+  pub goes :
+      {q : Progress} {sizes′ sets′ : List ℕ} → next ≡ Go q → sizes′ ≡ sizesThen next p sizes r → Tables sizes′ → sets′ ≡ setsThen next p sets r
+      → Stands plan q sizes′ sets′
+  unfolding verdictOf setsUnless after
+  goes {q} {sizes′} {sets′} is es tables et =
+      let pass = passed p sizes sets r q (sym (t .done) ∙ is) in
+      let es′ : sizes′ ≡ sizesAfter (p .counts .tx) sizes r = rw is at es in
+      let et′ : sets′ ≡ setsAfter (p .row) sets r = rw is at et in
+      let room : p .at + sizeOf r ≤ length plan = t .within .room (omega arith) in
+      rw (pass .1, et′, es′)
+      (record {
+        fair = fair-after p sizes sets r (t .stood .fair) (pass .0) (omega arith);
+        tables = rw es′ at tables;
+        long = sets-length (p .row) sets r ∙ t .stood .long;
+        inside = room;
+        rest = rw is at decides;
+        joins = rw is at joined;
+      })
+
+  pub falls : {q : Progress} → next ≡ Go q → length plan - q .at < length plan - p .at
+  unfolding after
+  falls {q} is =
+      let pass = passed p sizes sets r q (sym (t .done) ∙ is) in
+      rw (pass .1) (omega (arith, t .within .before (t .here)))
+
+-- ---- a good plan's sets are those that all its records leave
+
+good-step :
+    (next : Next) (v : Verdict) (sets rest all : List ℕ) (n t x : ℕ) → verdictOf next v ≡ Good n t x → (v ≡ Good n t x → rest ≡ all)
+    → setsUnless next sets rest ≡ all
+unfolding verdictOf setsUnless
+good-step (Go q) v sets rest all n t x e more = more e
+good-step (Refuse a k) v sets rest all n t x e more = let z : _≡_ {A = ℕ} 0 1 = cc in absurd (omega arith)
+
+pub sets-good :
+    (p : Progress) (sizes sets : List ℕ) (rs : List Record) (n t x : ℕ) → checkOn p sizes sets rs ≡ Good n t x
+    → setsOn p sizes sets rs ≡ setsFold (p .number) (p .row) sets rs
+unfolding checkOn setsOn setsFold after
+sets-good p sizes sets [] n t x e = refl
+sets-good p sizes sets (r ∷ rs) n t x e = good-step (judged p sizes sets r) _ _ _ _ n t x e (sets-good (after p r) _ _ rs n t x)
+
+pub good-sets :
+    (plan : List ℕ) (n t x : ℕ) → checkPlan plan ≡ Good n t x → setsOf plan ≡ setsFold 0 (start .row) (replicate 256 0) (records plan)
+unfolding checkPlan setsOf start
+good-sets plan n t x e = sets-good start _ _ (records plan) n t x e

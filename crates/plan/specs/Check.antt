@@ -1,5 +1,5 @@
 -- The check of a plan, in document 01's own order.
-use Prim.Native.Nat.{ℕ}
+use Prim.Native.Nat.{ℕ, _+_}
 use mathlib.Core.Bool.{Bool}
 use mathlib.Core.List.{List, [], _∷_}
 use lib.Dec.{eqb}
@@ -17,7 +17,7 @@ use Rattle.plan.specs.declared.progress.Row.{Row}
 use Rattle.plan.specs.declared.progress.Progress.{Progress}
 use Rattle.plan.specs.declared.progress.Next.{Next}
 use Rattle.plan.specs.declared.progress.Next.the-variants.{Go, Refuse}
-use Rattle.plan.specs.Progress.{after, start}
+use Rattle.plan.specs.Progress.{rowAfter, after, start}
 use Rattle.plan.specs.Tests.{followed, isKind, isWhole, mayStand, hasRoom, inRange, rises, inData, isFree, indicatorInData, indicatorIsFree}
 
 -- a test that must be passed, and what comes after it
@@ -94,3 +94,22 @@ checkOn p sizes sets (r ∷ rs) =
 
 unfoldable pub checkPlan : List ℕ → Verdict
 checkPlan plan = checkOn start (replicate 256 0) (replicate 256 0) (records plan)
+
+-- where a record is refused, the sets of owned bits stay as they are
+unfoldable pub setsUnless : Next → List ℕ → List ℕ → List ℕ
+setsUnless (Go q) sets rest = rest
+setsUnless (Refuse reason number) sets rest = sets
+
+-- the sets of owned bits when the check ends
+unfoldable pub setsOn : Progress → List ℕ → List ℕ → List Record → List ℕ
+setsOn p sizes sets [] = sets
+setsOn p sizes sets (r ∷ rs) =
+    setsUnless (judged p sizes sets r) sets (setsOn (after p r) (sizesAfter (p .counts .tx) sizes r) (setsAfter (p .row) sets r) rs)
+
+unfoldable pub setsOf : List ℕ → List ℕ
+setsOf plan = setsOn start (replicate 256 0) (replicate 256 0) (records plan)
+
+-- the sets that all records leave, where none is refused: the first one has number n, and row is the Rx frame before it
+unfoldable pub setsFold : ℕ → Row → List ℕ → List Record → List ℕ
+setsFold n row sets [] = sets
+setsFold n row sets (r ∷ rs) = setsFold (n + 1) (rowAfter n row r) (setsAfter row sets r) rs

@@ -9,10 +9,10 @@ use crate::verdict::Verdict;
 use records::reader::read_record;
 use records::record::Record;
 ghost use mathlib.Core.Path.{_≡_};
-ghost use lib.ListN.{length};
+ghost use lib.ListN.{length, replicate};
 ghost use Rattle.records.specs.Records.{kindOf};
 ghost use Rattle.plan.specs.Progress.{start};
-ghost use Rattle.plan.specs.Check.{judged, ended, checkPlan};
+ghost use Rattle.plan.specs.Check.{judged, ended, checkPlan, setsOf};
 ghost use Rattle.plan.specs.Motion.{Fair, Tables, sizesThen, setsThen};
 
 // The kind that a record's kind byte says; 0 where it is no kind.
@@ -134,17 +134,19 @@ fn begin() -> Progress
     }
 }
 
-// Whether a plan is good, with its counts; or why it is refused, with the number of the record.
-pub fn check_plan(plan: &[u8]) -> Verdict
-    ensures { λ r. ⌜ r ≡ checkPlan (now (plan .entry)) ⌝ }
+// Whether a plan is good, with its counts; or why it is refused, with the number of the record. `sets` becomes the sets of owned bits, one for
+// each Tx frame, that the check joined.
+pub fn check_with(plan: &[u8], sets: &mut [u64]) -> Verdict
+    requires { ⌜ now sets ≡ replicate 256 0 ⌝ }
+    ensures verdict { λ r. ⌜ r ≡ checkPlan (now (plan .entry)) ⌝ }
+    ensures sets { λ r. ⌜ now (sets .exit) ≡ setsOf (now (plan .entry)) ⌝ }
 {
     let mut sizes = [0u8; 256];
-    let mut sets = [0u64; 256];
     let mut p = begin();
     while p.at < plan.len() {
         let at = p.at;
         let record = read_record(plan, at);
-        let next = step(p, record, &mut sizes, &mut sets);
+        let next = step(p, record, &mut sizes, sets);
         match next {
             Next::Go(q) => {
                 p = q;
@@ -155,4 +157,12 @@ pub fn check_plan(plan: &[u8]) -> Verdict
         }
     }
     end(p)
+}
+
+// The same for one who needs the verdict only.
+pub fn check_plan(plan: &[u8]) -> Verdict
+    ensures { λ r. ⌜ r ≡ checkPlan (now (plan .entry)) ⌝ }
+{
+    let mut sets = [0u64; 256];
+    check_with(plan, &mut sets)
 }

@@ -1,0 +1,6 @@
+pub mod Variants
+pub mod Frame
+pub mod Kept
+pub mod ClaimLaws
+pub mod NarrowLaws
+pub mod QueueLaws

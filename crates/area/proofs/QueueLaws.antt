@@ -1,0 +1,329 @@
+-- A node's queue as a list, the oldest first: a frame joins at the end, the oldest leaves, and every other node's queue stays. Assumes nothing.
+use mathlib.Core.Path.{_≡_, refl, ap, _∙_}
+use mathlib.Core.Logic.{_≢_, _⊎_, inl, inr, ⊎-elim}
+use mathlib.Core.List.{List, [], _∷_, _++_}
+use Prim.Native.Nat.{ℕ, zero, suc, _+_, _-_, _*_, _<_, _≤_, _/_, _%_}
+use native.Mathlib.Decide.{decLt}
+use native.Mathlib.Nat.{add-zero, zero-add, mod-eq-of-lt, mod-eq-sub-mod, mod-add-mod, mod-lt}
+use native.Mathlib.Numerals.{add-one}
+use native.Mathlib.Omega.{arith}
+use borrow.Author.Tests.{eq-eqb, ne-eqb}
+use lib.ListN.{length, set, length-set}
+use lib.Seq.{getD-set-same, getD-set-other}
+use Rattle.base.specs.Numbers.{byteAt, twoAt, setTwo}
+use Rattle.base.proofs.Picks.{picks, passes}
+use Rattle.area.specs.declared.queue.Ends.{Ends}
+use Rattle.area.specs.Layout.{queue, waits, txTimer, txFrame}
+use Rattle.area.specs.Queue.{endsOf, slot, added, removed, setEnds, queued, scheduled, oldest, dequeued}
+use Rattle.area.proofs.Frame.{Same, same-refl, same-two, same-set, same-setTwo, same-setEnds, same-queued, same-dequeued}
+
+-- c entries of a ring, from the one that is k behind the oldest on
+unfoldable pub entries : List ℕ → Ends → ℕ → ℕ → List ℕ
+entries a e k zero = []
+entries a e k (suc c) = twoAt a (slot e k) % 256 ∷ entries a e (suc k) c
+
+-- the frames that wait on node n, the oldest first
+unfoldable pub queueOf : List ℕ → ℕ → List ℕ
+queueOf a n = entries a (endsOf a n) 0 (endsOf a n .waiting)
+
+-- a queue that opening and the calls make: its ring lies among the entries, and no more wait than there is room for
+pub record Sound (e : Ends) : Type 0 where
+  pub ring : e .start + e .room ≤ 528
+  pub few : e .waiting ≤ e .room
+  pub first : e .first < e .room
+  pub room : e .room ≤ 512
+
+-- the rings of two queues have no common entry
+abbrev pub Apart : Ends → Ends → Type 0
+Apart e f = (e .start + e .room ≤ f .start) ⊎ (f .start + f .room ≤ e .start)
+
+-- ---- lists
+
+entries-last : (a : List ℕ) (e : Ends) (k c : ℕ) → entries a e k (suc c) ≡ entries a e k c ++ (twoAt a (slot e (k + c)) % 256 ∷ [])
+unfolding entries
+entries-last a e k zero = rw add-zero
+entries-last a e k (suc c) =
+    let s : suc k + c ≡ k + suc c = omega arith in
+    rw (← s) (ap (λ (l : List ℕ). twoAt a (slot e k) % 256 ∷ l) (entries-last a e (suc k) c))
+
+-- two rings whose entries are alike, the one moved on by m
+entries-alike :
+    (a b : List ℕ) (e f : Ends) (m k c : ℕ) → ((i : ℕ) → i < c → twoAt b (slot f (k + i)) ≡ twoAt a (slot e (m + k + i)))
+    → entries b f k c ≡ entries a e (m + k) c
+unfolding entries
+entries-alike a b e f m k zero h = refl
+entries-alike a b e f m k (suc c) h =
+    let z : twoAt b (slot f k) ≡ twoAt a (slot e (m + k)) = rw (add-zero, add-zero) at (h 0 (omega arith)) in
+    let x : m + suc k ≡ suc (m + k) = omega arith in
+    let later : (i : ℕ) → i < c → twoAt b (slot f (suc k + i)) ≡ twoAt a (slot e (m + suc k + i)) =
+    λ i l.
+    let p : suc k + i ≡ k + suc i = omega arith in
+    let q : m + suc k + i ≡ m + k + suc i = omega arith in
+    rw (p, q) (h (suc i) (omega arith)) in
+    let r : entries b f (suc k) c ≡ entries a e (suc (m + k)) c = rw x at (entries-alike a b e f m (suc k) c later) in
+    cc
+
+entries-length : (a : List ℕ) (e : Ends) (k c : ℕ) → length (entries a e k c) ≡ c
+unfolding entries
+entries-length a e k zero = refl
+entries-length a e k (suc c) = ap suc (entries-length a e (suc k) c)
+
+pub length-queueOf : (a : List ℕ) (n : ℕ) → length (queueOf a n) ≡ endsOf a n .waiting
+unfolding queueOf
+length-queueOf a n = entries-length a (endsOf a n) 0 (endsOf a n .waiting)
+
+-- ---- numbers of two bytes
+
+-- the two bytes from j on
+abbrev Two : ℕ → ℕ → Type 0
+Two j k = (j ≤ k) × (k ≤ j + 1)
+
+two-kept : {a b : List ℕ} (j : ℕ) → Same (Two j) a b → twoAt b j ≡ twoAt a j
+two-kept j s = same-two s j (omega arith, omega arith) (omega arith, omega arith)
+
+-- a number stored beside them
+aside : {a b : List ℕ} (i v j : ℕ) → (j + 2 ≤ i) ⊎ (i + 2 ≤ j) → Same (Two j) a b → Same (Two j) a (setTwo b i v)
+aside i v j d s =
+    same-setTwo i v (λ p. ⊎-elim (λ x. omega arith) (λ x. omega arith) d) (λ p. ⊎-elim (λ x. omega arith) (λ x. omega arith) d) s
+
+two-other : (a : List ℕ) (i v j : ℕ) → (j + 2 ≤ i) ⊎ (i + 2 ≤ j) → twoAt (setTwo a i v) j ≡ twoAt a j
+two-other a i v j d =
+    two-kept j (aside i v j d (same-refl a))
+
+two-same : (a : List ℕ) (i v : ℕ) → i + 2 ≤ length a → v < 65536 → twoAt (setTwo a i v) i ≡ v
+two-same a i v h l =
+    let x : i ≢ i + 1 = λ e. omega arith in
+    let y : i < length a = omega arith in
+    let z : i + 1 < length (set a i (v / 256 % 256)) = rw length-set (omega arith) in
+    rw (getD-set-other, getD-set-same, getD-set-same) (omega arith)
+
+-- ---- the record of a queue
+
+abbrev InRecord : ℕ → ℕ → Type 0
+InRecord n j = (queue n ≤ j) × (j < queue n + 8)
+
+ends-same : {a b : List ℕ} (n : ℕ) → Same (InRecord n) a b → endsOf b n ≡ endsOf a n
+unfolding endsOf
+ends-same n s =
+    rw (
+      same-two s (queue n) (omega arith, omega arith) (omega arith, omega arith),
+      same-two s (queue n + 2) (omega arith, omega arith) (omega arith, omega arith),
+      same-two s (queue n + 4) (omega arith, omega arith) (omega arith, omega arith),
+      same-two s (queue n + 6) (omega arith, omega arith) (omega arith, omega arith),
+    )
+
+ends-setEnds :
+    (b : List ℕ) (n : ℕ) (f : Ends) → n < 16 → 32768 ≤ length b → f .first < 65536 → f .waiting < 65536
+    → endsOf (setEnds b n f) n ≡ record { start = endsOf b n .start; room = endsOf b n .room; first = f .first; waiting = f .waiting }
+unfolding endsOf setEnds
+ends-setEnds b n f hn hb h l =
+    let c = setTwo b (queue n + 4) (f .first) in
+    let g : queue n + 6 + 2 ≤ length c = simp length-set (omega arith) in
+    rw (
+      two-other c (queue n + 6) (f .waiting) (queue n) (inl (omega arith)) ∙ two-other b (queue n + 4) (f .first) (queue n) (inl (omega arith)),
+      two-other c (queue n + 6) (f .waiting) (queue n + 2) (inl (omega arith))
+          ∙ two-other b (queue n + 4) (f .first) (queue n + 2) (inl (omega arith)),
+      two-other c (queue n + 6) (f .waiting) (queue n + 4) (inl (omega arith)) ∙ two-same b (queue n + 4) (f .first) (omega arith) h,
+      two-same c (queue n + 6) (f .waiting) g l,
+    )
+
+-- ---- the entries of a ring
+
+-- where a place of the ring is, once round at the most
+wrap : (f k room : ℕ) → f < room → k < room → (((f + k) % room ≡ f + k) × (f + k < room)) ⊎ ((f + k) % room + room ≡ f + k)
+wrap f k room h l = go (decLt (f + k) room)
+  where
+    go : Dec (f + k < room) → (((f + k) % room ≡ f + k) × (f + k < room)) ⊎ ((f + k) % room + room ≡ f + k)
+    go (yes s) = inl (mod-eq-of-lt s, s)
+    go (no s) =
+        let x : f + k - room < room = omega arith in
+        let y : (f + k) % room ≡ f + k - room = mod-eq-sub-mod (omega arith) ∙ mod-eq-of-lt x in
+        inr (omega arith)
+
+-- two places of one ring are two
+turned : (f i k room : ℕ) → f < room → i < k → k < room → (f + i) % room ≢ (f + k) % room
+turned f i k room h l m e =
+    ⊎-elim
+    (λ x. ⊎-elim (λ y. omega arith) (λ y. omega arith) (wrap f k room h m))
+    (λ x. ⊎-elim (λ y. omega arith) (λ y. omega arith) (wrap f k room h m))
+    (wrap f i room h (omega arith))
+
+-- and their entries have no common byte
+far : (start x y p q : ℕ) → p ≡ 5328 + 2 * (start + x) → q ≡ 5328 + 2 * (start + y) → p ≢ q → (p + 2 ≤ q) ⊎ (q + 2 ≤ p)
+far start x y p q e f d = go (decLt p q)
+  where
+    go : Dec (p < q) → (p + 2 ≤ q) ⊎ (q + 2 ≤ p)
+    go (yes l) = inl (omega arith)
+    go (no l) = inr (omega (arith, d))
+
+-- every entry lies among the entries
+slot-low : (e : Ends) (k : ℕ) → 5328 ≤ slot e k
+unfolding slot
+slot-low e k = omega arith
+
+slot-high : (e : Ends) (k : ℕ) → slot e k + 2 ≤ 6384
+unfolding slot
+slot-high e k = omega arith
+
+module _ (e : Ends) (s : Sound e) where
+  within : (k : ℕ) → (e .first + k) % e .room < e .room
+  within k = mod-lt (e .first + k) (omega (arith, s .first))
+
+  slot-is : (k : ℕ) → slot e k ≡ 5328 + 2 * (e .start + (e .first + k) % e .room)
+  unfolding slot
+  slot-is k =
+      let l : e .start + (e .first + k) % e .room < 528 = omega (arith, within k, s .ring) in
+      rw (mod-eq-of-lt l)
+
+-- ---- a queue that nothing moves
+
+queue-alike :
+    (a b : List ℕ) (n : ℕ) → endsOf b n ≡ endsOf a n → ((k : ℕ) → twoAt b (slot (endsOf a n) k) ≡ twoAt a (slot (endsOf a n) k))
+    → queueOf b n ≡ queueOf a n
+unfolding queueOf
+queue-alike a b n e h = rw e (entries-alike a b (endsOf a n) (endsOf a n) 0 0 (endsOf a n .waiting) (λ i l. h (0 + i)))
+
+-- a change that leaves the records of the queues and their rings
+pub queue-same :
+    {P : ℕ → Type 0} {a b : List ℕ} → ((j : ℕ) → 80 ≤ j → j < 208 → P j) → ((j : ℕ) → 5328 ≤ j → j < 6384 → P j) → Same P a b → (n : ℕ) → n < 16
+    → queueOf b n ≡ queueOf a n
+queue-same {P} {a} {b} records rings s n h =
+    queue-alike a b n
+    (ends-same n (record { len = s .len; at = λ j p. s .at j (records j (omega arith) (omega arith)) }))
+    (λ k.
+    let low = slot-low (endsOf a n) k in
+    let high = slot-high (endsOf a n) k in
+    same-two s (slot (endsOf a n) k) (rings _ low (omega arith)) (rings _ (omega arith) (omega arith)))
+
+-- ---- joining
+
+module _ (a : List ℕ) (n t : ℕ) (hn : n < 16) (ha : 32768 ≤ length a) (s : Sound (endsOf a n)) where
+  -- where t goes
+  abbrev at : ℕ
+  at = slot (endsOf a n) (endsOf a n .waiting)
+
+  -- what joining leaves beside the place that t goes to
+  beside : (j : ℕ) → 208 ≤ j → (j + 2 ≤ at) ⊎ (at + 2 ≤ j) → twoAt (queued a n t) j ≡ twoAt a j
+  unfolding queued
+  beside j l d =
+      two-kept j (same-setEnds n _ (λ k x y p. omega arith) (aside at t j d (same-refl a)))
+
+  module _ (ht : t < 256) (some : endsOf a n .waiting < endsOf a n .room) where
+    pub ends-queued : endsOf (queued a n t) n ≡ added (endsOf a n)
+    unfolding queued added
+    ends-queued =
+        let low = slot-low (endsOf a n) (endsOf a n .waiting) in
+        let same = ends-same n (same-setTwo {P = InRecord n} at t (λ p. omega arith) (λ p. omega arith) (same-refl a)) in
+        ends-setEnds (setTwo a at t) n (added (endsOf a n)) hn (simp length-set ha) (omega (arith, s .first, s .room)) (omega (arith, s .room))
+        ∙ rw same
+
+    joined : twoAt (queued a n t) at ≡ t
+    unfolding queued
+    joined =
+        let low = slot-low (endsOf a n) (endsOf a n .waiting) in
+        let high = slot-high (endsOf a n) (endsOf a n .waiting) in
+        two-kept at (same-setEnds n _ (λ k x y p. omega arith) (same-refl (setTwo a at t))) ∙ two-same a at t (omega arith) (omega arith)
+
+    earlier : (i : ℕ) → i < endsOf a n .waiting → twoAt (queued a n t) (slot (endsOf a n) i) ≡ twoAt a (slot (endsOf a n) i)
+    earlier i l =
+        let d = turned (endsOf a n .first) i (endsOf a n .waiting) (endsOf a n .room) (s .first) l some in
+        let p = slot-is (endsOf a n) s i in
+        let q = slot-is (endsOf a n) s (endsOf a n .waiting) in
+        beside (slot (endsOf a n) i) (omega (arith, slot-low (endsOf a n) i)) (far (endsOf a n .start) _ _ _ _ p q (λ e. d (omega arith)))
+
+    -- "the frame joins its node's queue at the end"
+    pub queue-queued : queueOf (queued a n t) n ≡ queueOf a n ++ (t ∷ [])
+    unfolding queueOf added slot
+    queue-queued =
+        let e = endsOf a n in
+        let rest : entries (queued a n t) (added e) 0 (e .waiting) ≡ entries a e 0 (e .waiting) =
+        entries-alike a (queued a n t) e (added e) 0 0 (e .waiting) (λ i l. rw zero-add (earlier i l)) in
+        let last : twoAt (queued a n t) (slot (added e) (0 + e .waiting)) % 256 ≡ t = rw (zero-add, joined, mod-eq-of-lt ht) in
+        let one : entries (queued a n t) (added e) 0 (e .waiting + 1) ≡ entries a e 0 (e .waiting) ++ (t ∷ []) =
+        ap (entries (queued a n t) (added e) 0) (add-one (e .waiting)) ∙ entries-last (queued a n t) (added e) 0 (e .waiting) ∙ rw (rest, last) in
+        rw ends-queued one
+
+    pub sound-queued : Sound (endsOf (queued a n t) n)
+    unfolding added
+    sound-queued = rw ends-queued (record { ring = s .ring; few = omega arith; first = s .first; room = s .room })
+
+  -- the other nodes' queues stay
+  module _ (m : ℕ) (hm : m < 16) (d : m ≢ n) where
+    pub ends-queued-other : endsOf (queued a n t) m ≡ endsOf a m
+    ends-queued-other = ends-same m (same-queued a n t (λ j x y p. d (omega arith)) (λ j x y p. omega arith))
+
+    pub queue-queued-other : Sound (endsOf a m) → Apart (endsOf a m) (endsOf a n) → queueOf (queued a n t) m ≡ queueOf a m
+    queue-queued-other r apart =
+        let q = slot-is (endsOf a n) s (endsOf a n .waiting) in
+        let j = within (endsOf a n) s (endsOf a n .waiting) in
+        queue-alike a (queued a n t) m ends-queued-other
+        (λ k.
+        let p = slot-is (endsOf a m) r k in
+        let i = within (endsOf a m) r k in
+        beside (slot (endsOf a m) k) (omega arith) (⊎-elim (λ x. inl (omega arith)) (λ x. inr (omega arith)) apart))
+
+-- ---- leaving
+
+module _ (a : List ℕ) (n : ℕ) (hn : n < 16) where
+  rings : (e : Ends) (k : ℕ) → twoAt (dequeued a n) (slot e k) ≡ twoAt a (slot e k)
+  unfolding oldest
+  rings e k =
+      let low = slot-low e k in
+      two-kept (slot e k) (same-dequeued a n (λ j x y p. omega arith) (λ p. omega arith))
+
+  -- the other nodes' queues stay
+  pub ends-dequeued-other : (m : ℕ) → m < 16 → m ≢ n → endsOf (dequeued a n) m ≡ endsOf a m
+  unfolding oldest
+  ends-dequeued-other m hm d = ends-same m (same-dequeued a n (λ j x y p. d (omega arith)) (λ p. omega arith))
+
+  pub queue-dequeued-other : (m : ℕ) → m < 16 → m ≢ n → queueOf (dequeued a n) m ≡ queueOf a m
+  queue-dequeued-other m hm d = queue-alike a (dequeued a n) m (ends-dequeued-other m hm d) (rings (endsOf a m))
+
+  module _ (ha : 32768 ≤ length a) (s : Sound (endsOf a n)) where
+    pub ends-dequeued : endsOf (dequeued a n) n ≡ removed (endsOf a n)
+    unfolding dequeued removed oldest
+    ends-dequeued =
+        let l = within (endsOf a n) s 1 in
+        ends-same n (same-set {P = InRecord n} _ 0 (λ p. omega arith) (same-refl _))
+        ∙ ends-setEnds a n (removed (endsOf a n)) hn ha (omega (arith, s .room)) (omega (arith, s .few, s .room))
+
+    moved : (k : ℕ) → slot (removed (endsOf a n)) k ≡ slot (endsOf a n) (1 + k)
+    unfolding slot removed
+    moved k =
+        let e = endsOf a n in
+        let x : e .first + 1 + k ≡ e .first + (1 + k) = omega arith in
+        rw (mod-add-mod (e .first + 1) (e .room) k, x)
+
+    -- the oldest leaves
+    pub queue-dequeued : 0 < endsOf a n .waiting → queueOf a n ≡ oldest a n ∷ queueOf (dequeued a n) n
+    unfolding queueOf oldest entries removed
+    queue-dequeued h =
+        let e = endsOf a n in
+        let w : e .waiting ≡ suc (e .waiting - 1) = omega arith in
+        let head : entries a e 0 (e .waiting) ≡ twoAt a (slot e 0) % 256 ∷ entries a e 1 (e .waiting - 1) = ap (entries a e 0) w in
+        let rest : entries (dequeued a n) (removed e) 0 (e .waiting - 1) ≡ entries a e 1 (e .waiting - 1) =
+        entries-alike a (dequeued a n) e (removed e) 1 0 (e .waiting - 1) (λ i l. rw (zero-add, moved) (rings e (1 + i))) in
+        rw (ends-dequeued, head, rest)
+
+    pub sound-dequeued : Sound (endsOf (dequeued a n) n)
+    unfolding removed
+    sound-dequeued =
+        rw ends-dequeued
+        (record { ring = s .ring; few = omega (arith, s .few); first = within (endsOf a n) s 1; room = s .room })
+
+-- ---- scheduling
+
+-- a frame that waits stays where it is
+pub scheduled-waiting : (a : List ℕ) (t : ℕ) → byteAt a (waits t) ≢ 0 → scheduled a t ≡ a
+unfolding scheduled
+scheduled-waiting a t d = passes _ _ _ (ne-eqb _ _ d)
+
+-- a frame that does not joins its node's queue: as far as the queues go, that is all
+pub queue-scheduled :
+    (a : List ℕ) (t m : ℕ) → t < 256 → m < 16 → byteAt a (waits t) ≡ 0 → queueOf (scheduled a t) m ≡ queueOf (queued a (txFrame a t .node % 16) t) m
+unfolding scheduled
+queue-scheduled a t m ht hm z =
+    rw (picks _ _ _ (eq-eqb _ _ z))
+    (queue-same {P = λ j. (j ≡ waits t → ⊥) × (j ≡ txTimer t + 1 → ⊥)} (λ j l h. (λ e. omega arith, λ e. omega arith))
+    (λ j l h. (λ e. omega arith, λ e. omega arith))
+    (same-set _ _ (λ p. p .1 refl) (same-set _ _ (λ p. p .0 refl) (same-refl _))) m hm)

@@ -1,0 +1,53 @@
+-- A node's queue: a ring of entries, each a Tx number in two bytes. Its record in the area: where the ring begins, one less than its room,
+-- where the oldest entry is, and how many wait.
+use Prim.Native.Nat.{ℕ, _+_, _-_, _%_}
+use mathlib.Core.List.{List}
+use lib.Dec.{eqb}
+use lib.ListN.{set}
+use Rattle.base.specs.Pick.{pick}
+use Rattle.base.specs.Numbers.{byteAt, twoAt, setTwo}
+use Rattle.area.specs.Layout.{queue, entry, waits, txTimer, txFrame}
+use Rattle.area.specs.declared.queue.Ends.{Ends}
+
+unfoldable pub endsOf : List ℕ → ℕ → Ends
+endsOf a n =
+    record {
+      start = twoAt a (queue n);
+      room = twoAt a (queue n + 2) % 512 + 1;
+      first = twoAt a (queue n + 4);
+      waiting = twoAt a (queue n + 6);
+    }
+
+-- the place of the entry that is k behind the oldest
+unfoldable pub slot : Ends → ℕ → ℕ
+slot e k = entry ((e .start + (e .first + k) % e .room) % 528)
+
+-- "Adding to and taking from a queue each give the queue as it then is."
+unfoldable pub added : Ends → Ends
+added e = record { start = e .start; room = e .room; first = e .first; waiting = e .waiting + 1 }
+
+unfoldable pub removed : Ends → Ends
+removed e = record { start = e .start; room = e .room; first = (e .first + 1) % e .room; waiting = e .waiting - 1 }
+
+unfoldable pub setEnds : List ℕ → ℕ → Ends → List ℕ
+setEnds a n e = setTwo (setTwo a (queue n + 4) (e .first)) (queue n + 6) (e .waiting)
+
+-- Tx frame t at the end of node n's queue
+unfoldable pub queued : List ℕ → ℕ → ℕ → List ℕ
+queued a n t = setEnds (setTwo a (slot (endsOf a n) (endsOf a n .waiting)) t) n (added (endsOf a n))
+
+-- "Scheduling a frame already waiting changes nothing. Otherwise the frame joins its node's queue at the end and its Tx timer takes its reload
+-- value."
+unfoldable pub scheduled : List ℕ → ℕ → List ℕ
+scheduled a t =
+    pick (eqb (byteAt a (waits t)) 0)
+    (set (set (queued a (txFrame a t .node % 16) t) (waits t) 1) (txTimer t + 1) (byteAt a (txTimer t)))
+    a
+
+-- the oldest waiting frame of node n
+unfoldable pub oldest : List ℕ → ℕ → ℕ
+oldest a n = twoAt a (slot (endsOf a n) 0) % 256
+
+-- the area without it: it "then waits no more"
+unfoldable pub dequeued : List ℕ → ℕ → List ℕ
+dequeued a n = set (setEnds a n (removed (endsOf a n))) (waits (oldest a n)) 0

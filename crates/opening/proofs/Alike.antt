@@ -1,0 +1,122 @@
+-- Two areas that are alike in their first 32,768 bytes stay so, whatever is stored in both. Assumes nothing.
+use mathlib.Core.Path.{_≡_, refl, sym, _∙_}
+use mathlib.Core.Bool.{Bool, true, false}
+use mathlib.Core.List.{List, [], _∷_}
+use Prim.Native.Nat.{ℕ, zero, suc, _+_, _%_, _<_, _≤_}
+use native.Mathlib.Omega.{arith}
+use borrow.Author.Tests.{eqb-true, eqb-false}
+use lib.Dec.{eqb}
+use lib.ListN.{length, set, length-set}
+use lib.Seq.{getD-set-same, getD-set-other}
+use Rattle.base.specs.Pick.{pick}
+use Rattle.base.specs.Numbers.{byteAt, twoAt, setTwo}
+use Rattle.records.specs.declared.record.Eight.{Eight}
+use Rattle.records.specs.declared.record.TxFrame.{TxFrame}
+use Rattle.records.specs.declared.record.RxFrame.{RxFrame}
+use Rattle.records.specs.declared.record.Record.{Record}
+use Rattle.records.specs.declared.record.Record.the-variants.{Head, Node, Tx, Rx, Signal, Destination, BadKind, Cut, End}
+use Rattle.area.specs.Layout.{node, queue}
+use Rattle.opening.specs.Opened.{withTxTimer, withPayload, withFrame, withTx, withRxTimer, withRow, withNodeRow, withRx, withRecord, withRecords, ringsBefore, withRings, withFullness}
+
+pub record Alike (a b : List ℕ) : Type 0 where
+  pub first : 32768 ≤ length a
+  pub second : 32768 ≤ length b
+  pub at : (j : ℕ) → j < 32768 → byteAt a j ≡ byteAt b j
+
+alike-twoAt : {a b : List ℕ} → Alike a b → (k : ℕ) → k + 1 < 32768 → twoAt a k ≡ twoAt b k
+alike-twoAt s k h = rw (s .at k (omega arith), s .at (k + 1) h)
+
+pub alike-set : {a b : List ℕ} (i : ℕ) {v w : ℕ} → v ≡ w → Alike a b → Alike (set a i v) (set b i w)
+alike-set {a} {b} i {v} {w} e s = record {
+  first = simp length-set (s .first);
+  second = simp length-set (s .second);
+  at = λ j h. go j h (eqb j i) refl;
+}
+  where
+    go : (j : ℕ) → j < 32768 → (t : Bool) → eqb j i ≡ t → byteAt (set a i v) j ≡ byteAt (set b i w) j
+    go j h true t =
+        let is = eqb-true j i t in
+        rw (is, getD-set-same a i v 0 (omega (arith, s .first)), getD-set-same b i w 0 (omega (arith, s .second))) e
+    go j h false t =
+        let no′ = eqb-false j i t in
+        getD-set-other a i j v 0 no′ ∙ s .at j h ∙ sym (getD-set-other b i j w 0 no′)
+
+pub alike-setTwo : {a b : List ℕ} (i : ℕ) {v w : ℕ} → v ≡ w → Alike a b → Alike (setTwo a i v) (setTwo b i w)
+alike-setTwo i e s = alike-set (i + 1) (rw e) (alike-set i (rw e) s)
+
+alike-pick : {a b c d : List ℕ} (t : Bool) → Alike a b → Alike c d → Alike (pick t a c) (pick t b d)
+unfolding pick
+alike-pick true s u = s
+alike-pick false s u = u
+
+alike-tx-timer : (t : ℕ) (x : TxFrame) {a b : List ℕ} → Alike a b → Alike (withTxTimer t x a) (withTxTimer t x b)
+unfolding withTxTimer
+alike-tx-timer t x s = alike-set _ refl (alike-set _ refl (alike-set _ refl s))
+
+alike-payload : (t : ℕ) (e : Eight) {a b : List ℕ} → Alike a b → Alike (withPayload t e a) (withPayload t e b)
+unfolding withPayload
+alike-payload t e s =
+    alike-set _ refl (alike-set _ refl (alike-set _ refl (alike-set _ refl
+    (alike-set _ refl (alike-set _ refl (alike-set _ refl (alike-set _ refl s)))))))
+
+alike-frame : (n : ℕ) {a b : List ℕ} → n < 16 → Alike a b → Alike (withFrame n a) (withFrame n b)
+unfolding withFrame
+alike-frame n h s = alike-setTwo _ (rw (alike-twoAt s (queue n + 2) (omega arith))) s
+
+alike-tx : (at : ℕ) (x : TxFrame) {a b : List ℕ} → Alike a b → Alike (withTx at x a) (withTx at x b)
+unfolding withTx
+alike-tx at x s =
+    rw (alike-twoAt s 8 (omega arith))
+    (alike-setTwo 8 refl
+    (alike-frame (x .node % 16) (omega arith) (alike-payload _ (x .payload) (alike-tx-timer _ x (alike-setTwo _ refl s)))))
+
+alike-rx-timer : (r : ℕ) (x : RxFrame) {a b : List ℕ} → Alike a b → Alike (withRxTimer r x a) (withRxTimer r x b)
+unfolding withRxTimer
+alike-rx-timer r x s = alike-set _ refl (alike-set _ refl (alike-set _ refl (alike-set _ refl s)))
+
+alike-row : (r at : ℕ) (x : RxFrame) {a b : List ℕ} → Alike a b → Alike (withRow r at x a) (withRow r at x b)
+unfolding withRow
+alike-row r at x s = alike-setTwo _ refl (alike-setTwo _ refl (alike-setTwo _ refl s))
+
+alike-node-row : (n r : ℕ) {a b : List ℕ} → n < 16 → Alike a b → Alike (withNodeRow n r a) (withNodeRow n r b)
+unfolding withNodeRow
+alike-node-row n r h s =
+    rw (alike-twoAt s (node n + 2) (omega arith)) (alike-setTwo _ refl (alike-pick _ (alike-setTwo _ refl s) s))
+
+alike-rx : (at : ℕ) (x : RxFrame) {a b : List ℕ} → Alike a b → Alike (withRx at x a) (withRx at x b)
+unfolding withRx
+alike-rx at x s =
+    rw (alike-twoAt s 10 (omega arith))
+    (alike-setTwo 10 refl (alike-node-row (x .node % 16) _ (omega arith) (alike-row _ at x (alike-rx-timer _ x s))))
+
+alike-record : (at : ℕ) (r : Record) {a b : List ℕ} → Alike a b → Alike (withRecord at r a) (withRecord at r b)
+unfolding withRecord
+alike-record at (Head order) s = alike-set 3 refl s
+alike-record at (Node type) s = alike-set 6 (rw (s .at 6 (omega arith))) s
+alike-record at (Tx x) s = alike-tx at x s
+alike-record at (Rx x) s = alike-rx at x s
+alike-record at (Signal p q) s = s
+alike-record at (Destination t q) s = s
+alike-record at BadKind s = s
+alike-record at (Cut kind) s = s
+alike-record at End s = s
+
+pub alike-records : (at : ℕ) (rs : List Record) {a b : List ℕ} → Alike a b → Alike (withRecords at rs a) (withRecords at rs b)
+unfolding withRecords
+alike-records at [] s = s
+alike-records at (r ∷ rs) s = alike-records _ rs (alike-record at r s)
+
+alike-before : (n : ℕ) {a b : List ℕ} → n ≤ 16 → Alike a b → ringsBefore a n ≡ ringsBefore b n
+unfolding ringsBefore
+alike-before zero h s = refl
+alike-before (suc n) h s = rw (alike-before n (omega arith) s, alike-twoAt s (queue n + 2) (omega arith))
+
+pub alike-rings : (n : ℕ) {a b : List ℕ} → n ≤ 16 → Alike a b → Alike (withRings n a) (withRings n b)
+unfolding withRings
+alike-rings zero h s = s
+alike-rings (suc n) h s = alike-setTwo _ (alike-before n (omega arith) s) (alike-rings n (omega arith) s)
+
+pub alike-fullness : (sets : List ℕ) (n : ℕ) {a b : List ℕ} → Alike a b → Alike (withFullness sets n a) (withFullness sets n b)
+unfolding withFullness
+alike-fullness sets zero s = s
+alike-fullness sets (suc n) s = alike-setTwo _ refl (alike-fullness sets n s)

@@ -1,0 +1,7 @@
+pub mod Kept
+pub mod Turn
+pub mod Alike
+pub mod BlankLaws
+pub mod Counted
+pub mod Answers
+pub mod OpenedLaws

@@ -1,0 +1,33 @@
+-- `opening::blank::lay` meets its contract: after i turns the first i bytes of the plan are laid. Assumes nothing.
+use mathlib.Core.Path.{_≡_, refl}
+use Prim.Native.Nat.{_≤_, _-_}
+use native.Mathlib.Nat.{le-antisymm}
+use native.Mathlib.Numerals.{add-one}
+use native.Mathlib.Omega.{arith}
+use lib.ListN.{length}
+use Rattle.opening.specs.Opened.{laid}
+use borrow.Author.Needs.{needs}
+use Rattle.opening.proofs.blank.lay.Statement.{statement}
+use Rattle.opening.proofs.blank.lay.Tie as tie
+
+abbrev Inv-loop : tie.InvT-loop
+Inv-loop plan area₀ n i₀ area i = (area ≡ laid plan i area₀) × (i ≤ n) × (length area ≡ length area₀)
+
+abbrev μ-loop : tie.MeasureT-loop
+μ-loop plan area₀ n i₀ area i = n - i
+
+loop-holds : tie.Need-loop-holds Inv-loop μ-loop
+unfolding laid
+loop-holds c = (refl, omega arith, refl)
+
+loop-again : tie.Need-loop-again Inv-loop μ-loop
+unfolding laid
+loop-again c = (rw add-one cc, omega arith, search needs)
+
+returns : tie.Need-returns Inv-loop μ-loop
+returns c = let e = le-antisymm (c .before .loop .inv .1) (c .loop-test .left) in cc
+
+pub lay-spec : {M : Type 1} → statement M
+lay-spec =
+    tie.close
+    (tie.spec Inv-loop μ-loop loop-holds (λ c. search needs) (λ c. search needs) (λ c. search needs) (λ c. search needs) (λ c. search needs) loop-again (λ c. search needs) returns)

@@ -1,0 +1,46 @@
+-- `opening::record::with_record` meets its contract: by the record's kind. Assumes nothing.
+use Rattle.opening.specs.Opened.{withRecord}
+use borrow.Author.Needs.{needs}
+use Rattle.opening.proofs.record.with_record.Statement.{statement}
+use Rattle.opening.proofs.record.with_record.Tie as tie
+
+returns : tie.Need-returns
+unfolding withRecord
+returns c = rw (c .before .r .given .1)
+
+returns-2 : tie.Need-returns-2
+unfolding withRecord
+returns-2 c = rw (c .before .before .enum-told .given .1, c .wrapping-add-u8 .ensures)
+
+returns-3 : tie.Need-returns-3
+unfolding withRecord
+returns-3 c = rw (c .before .before .before .before .before .r2 .given .1) (c .before .before .with-tx .ensures)
+
+returns-4 : tie.Need-returns-4
+unfolding withRecord
+returns-4 c = rw (c .before .before .before .before .before .r3 .given .1) (c .before .before .with-rx .ensures)
+
+returns-5 : tie.Need-returns-5
+unfolding withRecord
+returns-5 c = rw (c .enum-told2 .given .1)
+
+returns-6 : tie.Need-returns-6
+unfolding withRecord
+returns-6 c = rw (c .enum-told3 .given .1)
+
+returns-7 : tie.Need-returns-7
+unfolding withRecord
+returns-7 c = rw (c .enum-told4 .given .1)
+
+returns-8 : tie.Need-returns-8
+unfolding withRecord
+returns-8 c = rw (c .enum-told5 .given .1)
+
+returns-9 : tie.Need-returns-9
+unfolding withRecord
+returns-9 c = rw (c .enum-told6 .given .1)
+
+pub with-record-spec : {M : Type 1} → statement M
+with-record-spec =
+    tie.close
+    (tie.spec (λ c. search needs) (λ c. search needs) (λ c. search needs) (λ c. search needs) (λ c κs. search needs) (λ c. search needs) (λ c. search needs) (λ c κs. search needs) (λ c. search needs) (λ c κs. search needs) (λ c. search needs) (λ c. search needs) (λ c. search needs) (λ c. search needs) (λ c. search needs) (λ c. search needs) returns (λ c. search needs) returns-2 (λ c. search needs) returns-3 (λ c. search needs) returns-4 returns-5 returns-6 returns-7 returns-8 returns-9)

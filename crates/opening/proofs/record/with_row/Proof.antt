@@ -1,0 +1,14 @@
+-- `opening::record::with_row` meets its contract: three stores. Assumes nothing.
+use Rattle.opening.specs.Opened.{withRow}
+use borrow.Author.Needs.{needs}
+use Rattle.opening.proofs.record.with_row.Statement.{statement}
+use Rattle.opening.proofs.record.with_row.Tie as tie
+
+returns : tie.Need-returns
+unfolding withRow
+returns c = cc
+
+pub with-row-spec : {M : Type 1} → statement M
+with-row-spec =
+    tie.close
+    (tie.spec (λ c. search needs) (λ c. search needs) (λ c κs. search needs) (λ c. search needs) (λ c κs. search needs) (λ c. search needs) (λ c κs. search needs) (λ c. search needs) returns)

@@ -1,0 +1,143 @@
+-- "Opening checks the plan and fills the area: hex 47 57 at its start, which no later call alters, payloads and timers initial, long counters
+-- at the long count, queues empty, tick counter 0. It answers the counts of nodes, Tx and Rx frames."
+use Prim.Native.Nat.{ℕ, zero, suc, _+_, _/_, _%_}
+use mathlib.Core.List.{List, [], _∷_}
+use lib.Dec.{leb, eqb}
+use lib.ListN.{length, getD, set}
+use Rattle.base.specs.Pick.{pick}
+use Rattle.base.specs.Numbers.{byteAt, twoAt, setTwo}
+use Rattle.bits.specs.Owners.{owners}
+use Rattle.clock.specs.Counter.{maskOf}
+use Rattle.records.specs.declared.record.Eight.{Eight}
+use Rattle.records.specs.declared.record.TxFrame.{TxFrame}
+use Rattle.records.specs.declared.record.RxFrame.{RxFrame}
+use Rattle.records.specs.declared.record.Record.{Record}
+use Rattle.records.specs.declared.record.Record.the-variants.{Head, Node, Tx, Rx, Signal, Destination, BadKind, Cut, End}
+use Rattle.records.specs.Records.{sizeOf, records}
+use Rattle.plan.specs.declared.verdict.Verdict.{Verdict}
+use Rattle.plan.specs.declared.verdict.Verdict.the-variants as verdict
+use Rattle.plan.specs.Check.{setsOf}
+use Rattle.area.specs.Layout.{node, queue, txTimer, rxTimer, long, full, txPlace, row, payload, txMask, rxMask}
+use Rattle.answers.specs.declared.Refusal.the-variants.{Plan, ShortArea}
+use Rattle.answers.specs.declared.Opened.{Opened}
+use Rattle.answers.specs.declared.Opened.the-variants.{Open, Refused}
+
+-- ---- an empty area with the plan in it
+
+-- the first n bytes zero
+unfoldable pub cleared : ℕ → List ℕ → List ℕ
+cleared zero a = a
+cleared (suc n) a = set (cleared n a) n 0
+
+-- the first n bytes of the plan, from 8,960 on
+unfoldable pub laid : List ℕ → ℕ → List ℕ → List ℕ
+laid plan zero a = a
+laid plan (suc n) a = set (laid plan n a) (8960 + n) (getD plan n 0)
+
+-- with the mark and the plan's length
+unfoldable pub blank : List ℕ → List ℕ → List ℕ
+blank plan a = setTwo (set (set (laid plan (length plan) (cleared 32768 a)) 0 0x47) 1 0x57) 4 (length plan)
+
+-- ---- one record: at is its place in the plan
+
+-- the number that the next Tx frame, and the next Rx frame, gets
+abbrev pub nextTx : List ℕ → ℕ
+nextTx a = twoAt a 8 % 256
+
+abbrev pub nextRx : List ℕ → ℕ
+nextRx a = twoAt a 10 % 256
+
+-- timer t of Tx frames: reload, initial value, mask
+unfoldable pub withTxTimer : ℕ → TxFrame → List ℕ → List ℕ
+withTxTimer t x a = set (set (set a (txTimer t) (x .reload)) (txTimer t + 1) (x .initial)) (txMask t) (maskOf (x .prescaler))
+
+unfoldable pub withPayload : ℕ → Eight → List ℕ → List ℕ
+withPayload t b a =
+    set
+    (set
+    (set
+    (set
+    (set
+    (set
+    (set
+    (set a (payload t) (b .0))
+    (payload t + 1) (b .1))
+    (payload t + 2) (b .2))
+    (payload t + 3) (b .3))
+    (payload t + 4) (b .4))
+    (payload t + 5) (b .5))
+    (payload t + 6) (b .6))
+    (payload t + 7) (b .7)
+
+-- one frame more that can wait on node n
+unfoldable pub withFrame : ℕ → List ℕ → List ℕ
+withFrame n a = setTwo a (queue n + 2) (twoAt a (queue n + 2) + 1)
+
+unfoldable pub withTx : ℕ → TxFrame → List ℕ → List ℕ
+withTx at x a =
+    setTwo
+    (withFrame (x .node % 16) (withPayload (nextTx a) (x .payload) (withTxTimer (nextTx a) x (setTwo a (txPlace (nextTx a)) at))))
+    8 (nextTx a + 1)
+
+unfoldable pub withRxTimer : ℕ → RxFrame → List ℕ → List ℕ
+withRxTimer r x a =
+    set (set (set (set a (rxTimer r) (x .reload)) (rxTimer r + 1) (x .initial)) (rxMask r) (maskOf (x .prescaler))) (long r) (x .long)
+
+-- the row: its key in four bytes, and its place
+unfoldable pub withRow : ℕ → ℕ → RxFrame → List ℕ → List ℕ
+withRow r at x a = setTwo (setTwo (setTwo a (row r) (x .id / 65536)) (row r + 2) (x .id % 65536)) (row r + 4) at
+
+-- one row more of node n, which is its first if it has none yet
+unfoldable pub withNodeRow : ℕ → ℕ → List ℕ → List ℕ
+withNodeRow n r a =
+    setTwo (pick (eqb (twoAt a (node n + 2)) 0) (setTwo a (node n) r) a) (node n + 2) (twoAt a (node n + 2) + 1)
+
+unfoldable pub withRx : ℕ → RxFrame → List ℕ → List ℕ
+withRx at x a = setTwo (withNodeRow (x .node % 16) (nextRx a) (withRow (nextRx a) at x (withRxTimer (nextRx a) x a))) 10 (nextRx a + 1)
+
+unfoldable pub withRecord : ℕ → Record → List ℕ → List ℕ
+withRecord at (Head order) a = set a 3 order
+withRecord at (Node type) a = set a 6 ((byteAt a 6 + 1) % 256)
+withRecord at (Tx frame) a = withTx at frame a
+withRecord at (Rx frame) a = withRx at frame a
+withRecord at (Signal p s) a = a
+withRecord at (Destination t q) a = a
+withRecord at BadKind a = a
+withRecord at (Cut kind) a = a
+withRecord at End a = a
+
+-- all records from a place on
+unfoldable pub withRecords : ℕ → List Record → List ℕ → List ℕ
+withRecords at [] a = a
+withRecords at (r ∷ rs) a = withRecords (at + sizeOf r) rs (withRecord at r a)
+
+-- ---- where the rings begin, and how full the frames are
+
+-- the rings of the first n nodes, one after the other: each has room for its frames and one more
+unfoldable pub ringsBefore : List ℕ → ℕ → ℕ
+ringsBefore a zero = 0
+ringsBefore a (suc n) = ringsBefore a n + (twoAt a (queue n + 2) % 512 + 1)
+
+unfoldable pub withRings : ℕ → List ℕ → List ℕ
+withRings zero a = a
+withRings (suc n) a = setTwo (withRings n a) (queue n) (ringsBefore a n)
+
+-- the count of owned bits of the first n Tx frames
+unfoldable pub withFullness : List ℕ → ℕ → List ℕ → List ℕ
+withFullness sets zero a = a
+withFullness sets (suc n) a = setTwo (withFullness sets n a) (full n) (owners (getD sets n 0) 64)
+
+-- ---- the call
+
+unfoldable pub opened : List ℕ → List ℕ → List ℕ
+opened plan a = withFullness (setsOf plan) 256 (withRings 16 (withRecords 0 (records plan) (blank plan a)))
+
+-- "10: the plan is good and the area is shorter than 32,768 bytes"; "Refusal 10 carries record number 0."
+unfoldable pub openedAnswer : Verdict → ℕ → Opened
+openedAnswer (verdict.Good nodes tx rx) n = pick (leb 32768 n) (Open nodes tx rx) (Refused ShortArea 0)
+openedAnswer (verdict.Refused reason number) n = Refused (Plan reason) number
+
+-- "A refusal writes nothing."
+unfoldable pub openedArea : Opened → List ℕ → List ℕ → List ℕ
+openedArea (Open nodes tx rx) plan a = opened plan a
+openedArea (Refused why number) plan a = a

@@ -1,0 +1,83 @@
+-- `walk::walk` meets its contract. The loop's invariant: the rest of the walk gives what the whole gives, and the area has kept the plan.
+-- The measure is what is left of the plan. Assumes nothing.
+use mathlib.Core.Path.{_≡_, refl, sym, _∙_}
+use Prim.Native.Nat.{_-_, _<_}
+use native.Mathlib.Omega.{arith}
+use denote.Ref.{now}
+use borrow.Author.Needs.{needs}
+use Rattle.base.specs.Pick.{pick}
+use Rattle.area.specs.Layout.{planOf}
+use Rattle.area.proofs.Kept.{Kept, kept-refl, kept-then}
+use Rattle.reception.specs.Walk.{waitOf, walked}
+use Rattle.reception.proofs.WalkLaws.{kept-put, walk-end, walk-signal, walk-destination, walk-stop, met-kept}
+use Rattle.reception.proofs.walk.walk.Statement.{statement}
+use Rattle.reception.proofs.walk.walk.Tie as tie
+
+abbrev Inv-loop : tie.InvT-loop
+Inv-loop order source awaits position area₀ from n k₀ p₀ s₀ waits₀ area k p s waits =
+    Kept area₀ area × (p < 256) × (s < 256)
+    × (walked order source (waitOf waits position) p s (planOf area₀) k area ≡ walked order source (waitOf awaits position) 0 0 (planOf area₀) from area₀)
+
+abbrev μ-loop : tie.MeasureT-loop
+μ-loop order source awaits position area₀ from n k₀ p₀ s₀ waits₀ area k p s waits = n - k
+
+loop-holds : tie.Need-loop-holds Inv-loop μ-loop
+loop-holds c = (kept-refl _, omega arith, omega arith, refl)
+
+record-of-requires : tie.Need-record-of-requires Inv-loop μ-loop
+record-of-requires c κs = omega (arith, c .before .before .loop .inv .0 .len)
+
+loop-again : tie.Need-loop-again Inv-loop μ-loop
+loop-again c =
+    let v = c .before .before .before .before .before .before .before .before .before .before .before .before .before .args in
+    let l = c .before .before .before .before .before .before .before .before .loop in
+    let inside = rw (c .before .before .before .before .before .before .before .before .before .plan-length .ensures .0) at (c .before .before .before .before .before .before .before .loop-test .taken) in
+    let e = met-kept (l .inv .0) (l .k) (sym (c .before .before .before .met .given .1) ∙ c .before .before .before .before .before .record-of .ensures) in (
+      l .inv .0,
+      c .before .wide .ensures .1,
+      c .wide2 .ensures .1,
+      rw (c .before .wide .ensures .0, c .wide2 .ensures .0) (sym (walk-signal (planOf (now (v .area))) (l .k) (v .order) (now (v .source)) (waitOf (l .waits) (v .position)) (l .p) (l .s) (l .area) inside _ _ e) ∙ l .inv .3),
+    )
+
+put-one-requires : tie.Need-put-one-requires Inv-loop μ-loop
+put-one-requires c κs = omega (arith, c .before .before .before .before .before .before .before .before .loop .inv .0 .len)
+
+loop-again-2 : tie.Need-loop-again-2 Inv-loop μ-loop
+unfolding waitOf pick
+loop-again-2 c =
+    let v = c .before .before .before .before .before .before .before .before .before .before .before .before .before .before .before .before .args in
+    let l = c .before .before .before .before .before .before .before .before .before .before .before .loop in
+    let inside = rw (c .before .before .before .before .before .before .before .before .before .before .before .before .plan-length .ensures .0) at (c .before .before .before .before .before .before .before .before .before .before .loop-test .taken) in
+    let e = met-kept (l .inv .0) (l .k) (sym (c .before .before .before .before .before .before .met2 .given .1) ∙ c .before .before .before .before .before .before .before .before .record-of .ensures) in
+    let q = c .before .before .before .wide3 in
+    let put = c .before .before .put-one .ensures in
+    let kept = kept-put (v .order) (now (v .source)) (v .position) (l .p) (l .s) (l .area) _ (q .result) (l .waits) (search needs) (l .inv .2) (q .ensures .1) in (
+      rw put (kept-then (l .inv .0) kept),
+      l .inv .1,
+      l .inv .2,
+      rw (put, q .ensures .0) (sym (walk-destination (planOf (now (v .area))) (l .k) (v .order) (now (v .source)) (waitOf (l .waits) (v .position)) (l .p) (l .s) (l .area) inside _ _ e) ∙ l .inv .3),
+    )
+
+same-length : tie.Need-same-length Inv-loop μ-loop
+same-length c = c .before .before .before .before .loop .inv .0 .len
+
+returns : tie.Need-returns Inv-loop μ-loop
+returns c =
+    let v = c .before .before .before .before .before .before .before .before .before .args in
+    let l = c .before .before .before .before .loop in
+    let inside = rw (c .before .before .before .before .before .plan-length .ensures .0) at (c .before .before .before .loop-test .taken) in
+    sym (walk-stop (planOf (now (v .area))) (l .k) (v .order) (now (v .source)) (waitOf (l .waits) (v .position)) (l .p) (l .s) (l .area) inside _ (met-kept (l .inv .0) (l .k) (c .before .record-of .ensures)) (c .match .keys3)) ∙ l .inv .3
+
+same-length-2 : tie.Need-same-length-2 Inv-loop μ-loop
+same-length-2 c = c .before .loop .inv .0 .len
+
+returns-2 : tie.Need-returns-2 Inv-loop μ-loop
+returns-2 c =
+    let v = c .before .before .before .before .before .before .args in
+    let l = c .before .loop in
+    sym (walk-end (planOf (now (v .area))) (l .k) (v .order) (now (v .source)) (waitOf (l .waits) (v .position)) (l .p) (l .s) (l .area) (rw (c .before .before .plan-length .ensures .0) at (c .loop-test .left))) ∙ l .inv .3
+
+pub walk-spec : {M : Type 1} → statement M
+walk-spec =
+    tie.close
+    (tie.spec Inv-loop μ-loop (λ c κs. search needs) loop-holds record-of-requires (λ c. search needs) (λ c κs. search needs) (λ c κs. search needs) (λ c. search needs) (λ c. search needs) loop-again (λ c. search needs) (λ c κs. search needs) put-one-requires (λ c. search needs) (λ c. search needs) loop-again-2 same-length returns same-length-2 returns-2)

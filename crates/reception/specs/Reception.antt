@@ -1,0 +1,48 @@
+-- "Reception takes node, ID and payload."
+use Prim.Native.Nat.{ℕ, _+_}
+use mathlib.Core.List.{List, _++_}
+use lib.Dec.{leb, ltb}
+use lib.ListN.{length, set, take, replicate}
+use Rattle.base.specs.Pick.{pick}
+use Rattle.base.specs.Numbers.{byteAt}
+use Rattle.area.specs.Layout.{rxTimer, marked, order, nodeCount, rxFrame, claims}
+use Rattle.area.specs.Claims.{accepted, allDone}
+use Rattle.answers.specs.declared.Refusal.the-variants.{NotOpen, NoNode, LongPayload}
+use Rattle.answers.specs.declared.Received.{Received}
+use Rattle.answers.specs.declared.Received.the-variants.{Accepted, NoRow, TooShort, Refused}
+use Rattle.reception.specs.declared.lookup.Found.{Found}
+use Rattle.reception.specs.declared.lookup.Found.the-variants.{At, Nothing}
+use Rattle.reception.specs.Lookup.{lookedUp}
+
+-- the payload with zero bytes after it, 64 in all: a copy on an area full of garbage may ask for any of them
+unfoldable pub padded : List ℕ → List ℕ
+padded payload = take 64 (payload ++ replicate 64 0)
+
+-- "Then in order: the Rx timer takes its reload value; an enabled failure bit becomes 0; signals are copied in plan order, each to its
+-- destinations in order."
+unfoldable pub acceptedArea : List ℕ → ℕ → List ℕ → List ℕ
+acceptedArea a r payload =
+    allDone (order a) (accepted r (padded payload)) (claims a r) (set a (rxTimer r + 1) (byteAt a (rxTimer r)))
+
+-- "A frame with no matching row is not processed further: answer 1, nothing changes. .. A payload shorter than the row's size: answer 2,
+-- nothing changes. Otherwise it is accepted, answer 0"
+unfoldable pub foundAnswer : List ℕ → Found → List ℕ → Received
+foundAnswer a Nothing payload = NoRow
+foundAnswer a (At r) payload = pick (ltb (length payload) (rxFrame a (r .0) .size)) TooShort Accepted
+
+unfoldable pub foundArea : List ℕ → Found → List ℕ → List ℕ
+foundArea a Nothing payload = a
+foundArea a (At r) payload = pick (ltb (length payload) (rxFrame a (r .0) .size)) a (acceptedArea a (r .0) payload)
+
+-- "For calls: 11, then 12 .., then 13"
+unfoldable pub receivedAnswer : List ℕ → ℕ → ℕ → List ℕ → Received
+receivedAnswer a n id payload =
+    pick (marked a)
+    (pick (ltb n (nodeCount a))
+    (pick (leb (length payload) 8) (foundAnswer a (lookedUp a n id) payload) (Refused LongPayload))
+    (Refused NoNode))
+    (Refused NotOpen)
+
+unfoldable pub receivedArea : List ℕ → ℕ → ℕ → List ℕ → List ℕ
+receivedArea a n id payload =
+    pick (marked a) (pick (ltb n (nodeCount a)) (pick (leb (length payload) 8) (foundArea a (lookedUp a n id) payload) a) a) a

@@ -1,0 +1,5 @@
+pub mod FailureLaws
+pub mod ExpiryLaws
+pub mod Positions
+pub mod TickFrame
+pub mod TickLaws

@@ -1,0 +1,89 @@
+-- "Tick. .. The counter moves on last. .. Tx timers go first, in number order: expiry reloads and schedules. Rx timers follow, in number order."
+use Prim.Native.Nat.{ℕ, zero, suc, _+_}
+use mathlib.Core.Bool.{Bool}
+use mathlib.Core.List.{List}
+use lib.Dec.{leb, eqb}
+use lib.Bits.{bitAnd}
+use lib.ListN.{length, set}
+use Rattle.base.specs.Pick.{pick}
+use Rattle.base.specs.Numbers.{byteAt}
+use Rattle.clock.specs.Counter.{counterNext}
+use Rattle.clock.specs.Timer.{lowered}
+use Rattle.area.specs.Layout.{txTimer, rxTimer, long, txMask, rxMask, marked, counter, order, txCount, rxCount, rxFrame, claims}
+use Rattle.area.specs.Queue.{scheduled}
+use Rattle.area.specs.Claims.{expired, allDone}
+use Rattle.answers.specs.declared.Refusal.the-variants.{NotOpen, ShortReport}
+use Rattle.answers.specs.declared.Ticked.{Ticked}
+use Rattle.answers.specs.declared.Ticked.the-variants.{Done, Refused}
+
+-- ---- a timer at a place: "A timer is handled where the counter and the mask .. have no common bit"
+
+unfoldable pub due : ℕ → ℕ → Bool
+due k mask = eqb (bitAnd k mask) 0
+
+-- "A timer holding 0 is left so. Otherwise it falls by one; at 0 it has expired and takes its reload value." at is the place of its reload value
+unfoldable pub timed : List ℕ → ℕ → List ℕ
+timed a at = set a (at + 1) (lowered (byteAt a at) (byteAt a (at + 1)))
+
+-- ---- Tx timers
+
+unfoldable pub txTick : ℕ → List ℕ → ℕ → List ℕ
+txTick k a t =
+    pick (due k (byteAt a (txMask t)))
+    (pick (eqb (byteAt a (txTimer t + 1)) 1) (scheduled (timed a (txTimer t)) t) (timed a (txTimer t)))
+    a
+
+-- the first n
+unfoldable pub txTicks : ℕ → ℕ → List ℕ → List ℕ
+txTicks k zero a = a
+txTicks k (suc n) a = txTick k (txTicks k n a) n
+
+-- ---- Rx timers
+
+-- "expiry sets the enabled failure bit and lowers the long counter if it is above 0; falling to 0 is a long timeout and the counter takes the
+-- long count again"
+unfoldable pub longLowered : List ℕ → ℕ → List ℕ
+longLowered a r = set a (long r) (lowered (rxFrame a r .long) (byteAt a (long r)))
+
+unfoldable pub expiredArea : List ℕ → ℕ → List ℕ
+expiredArea a r = longLowered (allDone (order a) (expired r) (claims a r) a) r
+
+-- "0 nothing, 1 short, 2 long"
+unfoldable pub expiredReport : List ℕ → ℕ → ℕ
+expiredReport a r = pick (eqb (byteAt a (long r)) 1) 2 1
+
+unfoldable pub rxTick : ℕ → List ℕ → ℕ → List ℕ
+rxTick k a r =
+    pick (due k (byteAt a (rxMask r)))
+    (pick (eqb (byteAt a (rxTimer r + 1)) 1) (expiredArea (timed a (rxTimer r)) r) (timed a (rxTimer r)))
+    a
+
+unfoldable pub rxReport : ℕ → List ℕ → ℕ → ℕ
+rxReport k a r = pick (due k (byteAt a (rxMask r))) (pick (eqb (byteAt a (rxTimer r + 1)) 1) (expiredReport a r) 0) 0
+
+unfoldable pub rxTicks : ℕ → ℕ → List ℕ → List ℕ
+rxTicks k zero a = a
+rxTicks k (suc n) a = rxTick k (rxTicks k n a) n
+
+-- "The report gets one byte per Rx frame in order: 0 nothing, 1 short, 2 long; its further bytes stay."
+unfoldable pub reported : ℕ → ℕ → List ℕ → List ℕ → List ℕ
+reported k zero a report = report
+reported k (suc n) a report = set (reported k n a report) n (rxReport k (rxTicks k n a) n)
+
+-- ---- the call
+
+unfoldable pub ticked : List ℕ → List ℕ
+ticked a =
+    set (rxTicks (counter a) (rxCount a) (txTicks (counter a) (txCount a) a)) 2 (counterNext (counter a))
+
+-- "For calls: 11, then .. 14."
+unfoldable pub tickAnswer : List ℕ → List ℕ → Ticked
+tickAnswer a report = pick (marked a) (pick (leb (rxCount a) (length report)) Done (Refused ShortReport)) (Refused NotOpen)
+
+unfoldable pub tickedArea : Ticked → List ℕ → List ℕ
+tickedArea Done a = ticked a
+tickedArea (Refused why) a = a
+
+unfoldable pub tickedReport : Ticked → List ℕ → List ℕ → List ℕ
+tickedReport Done a report = reported (counter a) (rxCount a) (txTicks (counter a) (txCount a) a) report
+tickedReport (Refused why) a report = report

@@ -1,0 +1,172 @@
+//! Event streams for a plan, biased to hit its rows and its timers.
+
+use crate::rng::Rng;
+use crate::spec::Plan;
+
+/// How often each kind of event comes, as weights.
+#[derive(Clone, Copy, Debug)]
+pub struct Mix {
+    /// Receptions meant for a row.
+    pub hits: usize,
+    /// Receptions meant for no row.
+    pub misses: usize,
+    pub ticks: usize,
+    /// At most so many ticks at once.
+    pub burst: usize,
+    pub takes: usize,
+}
+
+pub const EVEN: Mix = Mix {
+    hits: 6,
+    misses: 1,
+    ticks: 4,
+    burst: 4,
+    takes: 4,
+};
+
+/// The stream so far.
+pub struct Events<'p> {
+    plan: &'p Plan,
+    pub bytes: Vec<u8>,
+    /// The data last sent to each row.
+    last_data: Vec<[u8; 8]>,
+}
+
+impl<'p> Events<'p> {
+    pub fn new(plan: &'p Plan) -> Events<'p> {
+        Events {
+            plan,
+            bytes: Vec::new(),
+            last_data: vec![[0; 8]; plan.rx.len()],
+        }
+    }
+
+    pub fn reception(&mut self, node: u8, id: u16, length: u8, data: [u8; 8]) {
+        let [high, low] = id.to_be_bytes();
+        self.bytes.extend([16, node, high, low, length]);
+        self.bytes.extend(data);
+    }
+
+    pub fn ticks(&mut self, count: usize) {
+        self.bytes.resize(self.bytes.len() + count, 17);
+    }
+
+    pub fn take(&mut self, node: u8) {
+        self.bytes.extend([18, node]);
+    }
+
+    /// So many events by the mix.
+    pub fn some(&mut self, rng: &mut Rng, count: usize, mix: Mix) {
+        let all = mix.hits + mix.misses + mix.ticks + mix.takes;
+        for _ in 0..count {
+            let choice = rng.below(all);
+            if choice < mix.hits {
+                self.hit(rng);
+            } else if choice < mix.hits + mix.misses {
+                self.miss(rng);
+            } else if choice < mix.hits + mix.misses + mix.ticks {
+                let count = rng.from_to(1, mix.burst);
+                self.ticks(count);
+            } else {
+                self.any_take(rng);
+            }
+        }
+    }
+
+    /// A reception for a row, its length around the row's size.
+    pub fn hit(&mut self, rng: &mut Rng) {
+        if self.plan.rx.is_empty() {
+            return self.miss(rng);
+        }
+        let row = rng.below(self.plan.rx.len());
+        let size = self.plan.rx[row].size;
+        let length = match rng.below(12) {
+            0 => 8,
+            1 | 2 => size + 1,
+            3 => size.saturating_sub(1),
+            4 => rng.below(13) as u8,
+            _ => size,
+        };
+        let data = self.data_for(rng, row);
+        self.reception(self.plan.rx[row].node, self.plan.rx[row].id, length, data);
+    }
+
+    /// A reception of the row's size with the data sent to it before.
+    pub fn repeat(&mut self, row: usize) {
+        let rx = &self.plan.rx[row];
+        self.reception(rx.node, rx.id, rx.size, self.last_data[row]);
+    }
+
+    /// The same data as before, one bit of it changed, or new data.
+    fn data_for(&mut self, rng: &mut Rng, row: usize) -> [u8; 8] {
+        let mut data = self.last_data[row];
+        match rng.below(4) {
+            0 => {}
+            1 => data[rng.below(8)] ^= 1 << rng.below(8),
+            _ => data = rng.payload(),
+        }
+        self.last_data[row] = data;
+        data
+    }
+
+    /// A reception that should find no row, or is refused.
+    pub fn miss(&mut self, rng: &mut Rng) {
+        let mut node = rng.below(self.plan.nodes + 1) as u8;
+        let mut id = rng.below(2048) as u16;
+        let mut length = rng.below(9) as u8;
+        if !self.plan.rx.is_empty() {
+            let rx = &self.plan.rx[rng.below(self.plan.rx.len())];
+            node = rx.node;
+            id = rx.id;
+            length = rx.size;
+        }
+        match rng.below(9) {
+            0..=2 => node = rng.below(self.plan.nodes + 1) as u8,
+            3 => node = rng.pick(&[self.plan.nodes as u8, 16, 128, 255]),
+            4 => id = id.wrapping_add(1),
+            5 => id = id.wrapping_sub(1),
+            6 => id = id.wrapping_add(rng.pick(&[2048, 4096, 0x8000])),
+            7 => {
+                let any = rng.number() as u16;
+                id = rng.pick(&[2048, 0xFFFF, any]);
+            }
+            _ => length = rng.pick(&[9, 10, 11, 12, 128, 255]),
+        }
+        self.reception(node, id, length, rng.payload());
+    }
+
+    fn any_take(&mut self, rng: &mut Rng) {
+        let node = match rng.below(20) {
+            0 => rng.pick(&[self.plan.nodes as u8, 16, 255]),
+            _ => rng.below(self.plan.nodes) as u8,
+        };
+        self.take(node);
+    }
+
+    /// Takes on every node until nothing waits there.
+    pub fn drain(&mut self) {
+        for node in 0..self.plan.nodes {
+            let frames = self.plan.tx.iter();
+            let frames = frames.filter(|tx| usize::from(tx.node) == node).count();
+            for _ in 0..=frames {
+                self.take(node as u8);
+            }
+        }
+    }
+
+    /// Ticks that make most periodic frames due, then a drain, so that what
+    /// the frames hold is seen.
+    pub fn show_all(&mut self, rng: &mut Rng) {
+        let count = rng.from_to(3, 6);
+        self.ticks(count);
+        self.drain();
+    }
+}
+
+/// An ordinary stream: some events of each kind, then everything is shown.
+pub fn ordinary(rng: &mut Rng, plan: &Plan, count: usize) -> Vec<u8> {
+    let mut events = Events::new(plan);
+    events.some(rng, count, EVEN);
+    events.show_all(rng);
+    events.bytes
+}

@@ -1,0 +1,267 @@
+//! Good plans of many shapes.
+
+use std::collections::BTreeSet;
+
+use crate::rng::Rng;
+use crate::spec::{Destination, Plan, Rx, Signal, Tx};
+
+/// How large a plan is to be.
+#[derive(Clone, Copy, Debug)]
+pub struct Measure {
+    pub nodes: usize,
+    pub tx: usize,
+    pub rx: usize,
+    /// At most so many signals in a frame.
+    pub signals: usize,
+    /// At most so many destinations for a signal.
+    pub destinations: usize,
+}
+
+/// Which bits of each Tx frame have an owner.
+pub struct Owners {
+    owned: Vec<[bool; 64]>,
+}
+
+impl Owners {
+    pub fn new(tx_count: usize) -> Owners {
+        Owners {
+            owned: vec![[false; 64]; tx_count],
+        }
+    }
+
+    fn is_free(&self, tx: usize, position: usize, size: usize) -> bool {
+        (position..position + size).all(|bit| !self.owned[tx][bit])
+    }
+
+    pub fn own(&mut self, tx: usize, position: usize, size: usize) {
+        for bit in position..position + size {
+            self.owned[tx][bit] = true;
+        }
+    }
+
+    /// A free place in the Tx frame: the first, the last or any, so that many
+    /// destinations touch each other and many cross bytes.
+    pub fn free_place(&self, rng: &mut Rng, tx: usize, tx_size: u8, size: usize) -> Option<usize> {
+        let bits = 8 * usize::from(tx_size);
+        let free: Vec<usize> = (0..=63)
+            .filter(|p| p + size <= bits && self.is_free(tx, *p, size))
+            .collect();
+        match rng.below(4) {
+            0 => free.first().copied(),
+            1 => free.last().copied(),
+            _ if free.is_empty() => None,
+            _ => Some(rng.pick(&free)),
+        }
+    }
+}
+
+/// A timer value: "reloads and timers from 0, 1, 2, 3, 255 or any".
+pub fn timer_value(rng: &mut Rng) -> u8 {
+    match rng.below(10) {
+        0 | 1 => 0,
+        2 | 3 => 1,
+        4 | 5 => 2,
+        6 | 7 => 3,
+        8 => 255,
+        _ => rng.byte(),
+    }
+}
+
+pub fn prescaler(rng: &mut Rng) -> u8 {
+    rng.pick(&[1, 1, 1, 2, 2, 10, 20])
+}
+
+/// A payload whose bytes past the size are zero.
+pub fn payload_of_size(rng: &mut Rng, size: u8) -> [u8; 8] {
+    let mut payload = match rng.below(4) {
+        0 => [0; 8],
+        1 => [0xFF; 8],
+        _ => rng.payload(),
+    };
+    payload[usize::from(size)..].fill(0);
+    payload
+}
+
+fn frame_size(rng: &mut Rng) -> u8 {
+    match rng.below(8) {
+        0 => 0,
+        1 | 2 => 8,
+        _ => rng.from_to(1, 8) as u8,
+    }
+}
+
+fn tx_frame(rng: &mut Rng, nodes: usize) -> Tx {
+    let size = frame_size(rng);
+    Tx {
+        node: rng.below(nodes) as u8,
+        id: rng.below(2048) as u16,
+        size,
+        prescaler: prescaler(rng),
+        reload: timer_value(rng),
+        timer: timer_value(rng),
+        flags: rng.below(4) as u8,
+        payload: payload_of_size(rng, size),
+    }
+}
+
+/// Rising (node, ID) keys: IDs near each other, at the ends, or anywhere.
+fn keys(rng: &mut Rng, nodes: usize, count: usize) -> BTreeSet<(u8, u16)> {
+    let mut keys = BTreeSet::new();
+    let base = rng.below(2048);
+    let style = rng.below(4);
+    while keys.len() < count {
+        let node = rng.below(nodes) as u8;
+        let id = match style {
+            0 => rng.below(2048),
+            1 => (base + rng.below(2 * count + 2)) % 2048,
+            2 => {
+                let any = rng.below(2048);
+                rng.pick(&[0, 1, 2, 2045, 2046, 2047, any])
+            }
+            _ => (base + 256 * rng.below(8) + rng.below(count)) % 2048,
+        };
+        keys.insert((node, id as u16));
+    }
+    keys
+}
+
+fn rx_frame(rng: &mut Rng, node: u8, id: u16) -> Rx {
+    let any_count = rng.below(16) as u8;
+    Rx {
+        node,
+        id,
+        size: frame_size(rng),
+        prescaler: prescaler(rng),
+        reload: timer_value(rng),
+        timer: timer_value(rng),
+        enable: 0,
+        failure_position: rng.below(64) as u8,
+        long_count: rng.pick(&[0, 1, 2, 3, 15, any_count]),
+        signals: Vec::new(),
+    }
+}
+
+/// A signal that fits into a frame of so many bits (at least one).
+pub fn signal(rng: &mut Rng, bits: usize) -> Signal {
+    let size = match rng.below(6) {
+        0 => bits,
+        1 => rng.from_to(1, bits),
+        2 => bits.min(8),
+        _ => rng.from_to(1, bits.min(7)),
+    };
+    Signal {
+        position: rng.from_to(0, bits - size) as u8,
+        size: size as u8,
+        destinations: Vec::new(),
+    }
+}
+
+/// A good plan of the given measure. Destinations that find no free place are
+/// left out. Without nodes there are no frames.
+pub fn plan(rng: &mut Rng, measure: Measure) -> Plan {
+    let mut plan = Plan {
+        order: rng.below(2) as u8,
+        nodes: measure.nodes,
+        ..Plan::default()
+    };
+    if measure.nodes == 0 {
+        return plan;
+    }
+    plan.tx = (0..measure.tx)
+        .map(|_| tx_frame(rng, measure.nodes))
+        .collect();
+    let mut owners = Owners::new(measure.tx);
+    for (node, id) in keys(rng, measure.nodes, measure.rx) {
+        let mut rx = rx_frame(rng, node, id);
+        let signals = match rx.size {
+            0 => 0,
+            _ => rng.from_to(0, measure.signals),
+        };
+        for _ in 0..signals {
+            let signal = signal(rng, 8 * usize::from(rx.size));
+            rx.signals.push(signal);
+            let wanted = rng.from_to(0, measure.destinations);
+            for _ in 0..wanted {
+                add_destination(rng, &plan.tx, &mut owners, &mut rx);
+            }
+        }
+        plan.rx.push(rx);
+    }
+    plan
+}
+
+/// Gives the last signal of the frame one more destination, if there is a
+/// place; with the first one of the frame's first signal, perhaps an enabled
+/// indicator.
+pub fn add_destination(rng: &mut Rng, txs: &[Tx], owners: &mut Owners, rx: &mut Rx) {
+    let is_first_signal = rx.signals.len() == 1;
+    let Some(signal) = rx.signals.last_mut() else {
+        return;
+    };
+    let size = usize::from(signal.size);
+    for _ in 0..4 {
+        if txs.is_empty() {
+            return;
+        }
+        let tx = rng.below(txs.len());
+        let Some(position) = owners.free_place(rng, tx, txs[tx].size, size) else {
+            continue;
+        };
+        owners.own(tx, position, size);
+        signal.destinations.push(Destination {
+            tx: tx as u16,
+            position: position as u8,
+        });
+        if is_first_signal && signal.destinations.len() == 1 && !rng.once_in(3) {
+            if let Some(bit) = owners.free_place(rng, tx, txs[tx].size, 1) {
+                owners.own(tx, bit, 1);
+                rx.enable = 1;
+                rx.failure_position = bit as u8;
+            }
+        }
+        return;
+    }
+}
+
+/// A small good plan of some size in every table.
+pub fn small_plan(rng: &mut Rng) -> Plan {
+    let measure = Measure {
+        nodes: rng.from_to(1, 4),
+        tx: rng.from_to(1, 6),
+        rx: rng.from_to(1, 6),
+        signals: 3,
+        destinations: 3,
+    };
+    plan(rng, measure)
+}
+
+/// A small good plan that surely has two nodes, two Tx frames, two rows, two
+/// destinations, and a row with an enabled indicator.
+pub fn rich_plan(rng: &mut Rng) -> Plan {
+    loop {
+        let measure = Measure {
+            nodes: rng.from_to(2, 4),
+            tx: rng.from_to(2, 6),
+            rx: rng.from_to(2, 6),
+            signals: 4,
+            destinations: 3,
+        };
+        let plan = plan(rng, measure);
+        if watched_rows(&plan).is_empty() || destination_count(&plan) < 2 {
+            continue;
+        }
+        return plan;
+    }
+}
+
+/// The numbers of the rows with an enabled indicator.
+pub fn watched_rows(plan: &Plan) -> Vec<usize> {
+    (0..plan.rx.len())
+        .filter(|row| plan.rx[*row].enable == 1)
+        .collect()
+}
+
+pub fn destination_count(plan: &Plan) -> usize {
+    let signals = plan.rx.iter().flat_map(|rx| &rx.signals);
+    signals.map(|signal| signal.destinations.len()).sum()
+}

@@ -1,0 +1,265 @@
+//! Filling the table.
+//!
+//! Each case is played once more through the second program's own calls, and
+//! what is seen there is counted. Nothing is counted by what a shape meant to
+//! do.
+
+use second::bench::{handed_on, read_event, split_input, Event};
+use second::bits::Order;
+use second::gateway::{Answer, Gateway};
+use second::parse::{body_length, DESTINATION, NODE, RX_FRAME, SIGNAL, TX_FRAME};
+use second::plan::Plan;
+use second::refusal::{PlanRefusal, Refusal};
+
+use crate::tally::{past_row, Tally, INPUT_LENGTHS, LIMITS};
+
+impl Tally {
+    /// Counts what this input meets.
+    pub fn observe(&mut self, input: &[u8]) {
+        if INPUT_LENGTHS.contains(&input.len()) {
+            self.met(&format!("inputs of {} bytes", input.len()));
+        }
+        let Some((plan, events)) = split_input(input) else {
+            self.met("input bad alone");
+            return;
+        };
+        match Gateway::open(plan) {
+            Err(refused) => self.refused_plan(plan, refused),
+            Ok(gateway) => {
+                self.good_plan(gateway.plan());
+                self.events(gateway, events);
+            }
+        }
+    }
+
+    fn refused_plan(&mut self, plan: &[u8], refused: PlanRefusal) {
+        self.met(&format!("plan refused {}", refused.refusal.number()));
+        if refused.refusal == Refusal::CountPassed {
+            for (what, limit) in passed(plan, refused.record) {
+                self.met(&past_row(what, limit));
+            }
+        }
+    }
+
+    fn good_plan(&mut self, plan: &Plan) {
+        self.met("plan ok");
+        self.met(match plan.order {
+            Order::Big => "plans in big order",
+            Order::Little => "plans in little order",
+        });
+        let tx = plan.tx_frames.iter();
+        let rx = plan.rx_frames.iter();
+        let prescalers: Vec<u8> = tx
+            .map(|t| t.prescaler)
+            .chain(rx.map(|r| r.prescaler))
+            .collect();
+        for prescaler in [1, 2, 10, 20] {
+            if prescalers.contains(&prescaler) {
+                self.met(&format!("plans with prescaler {prescaler}"));
+            }
+        }
+        let tx = plan.tx_frames.iter();
+        let rx = plan.rx_frames.iter();
+        let tx = tx.flat_map(|t| [t.reload, t.initial_timer]);
+        let rx = rx.flat_map(|r| [r.reload, r.initial_timer]);
+        let timers: Vec<u8> = tx.chain(rx).collect();
+        for value in [0, 1, 255] {
+            if timers.contains(&value) {
+                self.met(&format!("plans with timer value {value}"));
+            }
+        }
+        for ((what, limit), count) in LIMITS.into_iter().zip(counts(plan)) {
+            if count == limit {
+                self.met(&format!("plans of {limit} {what}"));
+            }
+        }
+    }
+
+    fn events(&mut self, mut gateway: Gateway, events: &[u8]) {
+        let mut ticks = 0;
+        let mut rest = events;
+        while !rest.is_empty() {
+            let Some((event, after)) = read_event(rest) else {
+                self.met(match rest.len() == events.len() {
+                    true => "input bad as the first event",
+                    false => "input bad after events",
+                });
+                break;
+            };
+            match event {
+                Event::Reception {
+                    node,
+                    id,
+                    length,
+                    data,
+                } => self.reception(&mut gateway, node, id, length, &data),
+                Event::Tick => {
+                    ticks += 1;
+                    self.tick(&mut gateway);
+                }
+                Event::Take { node } => self.take(&mut gateway, node),
+            }
+            rest = after;
+        }
+        if ticks > 160 {
+            self.met("cases of more than 160 ticks");
+        }
+    }
+
+    fn reception(&mut self, gateway: &mut Gateway, node: u8, id: u16, length: u8, data: &[u8; 8]) {
+        match length {
+            0..=12 => self.met(&format!("receptions of length {length}")),
+            _ => self.met("receptions of length above 12"),
+        }
+        let failure_bits = failure_bits(gateway);
+        let waiting = waiting(gateway);
+        match gateway.receive(node, id, &handed_on(length, data)) {
+            Err(refusal) => self.met(&format!("rx refused {}", refusal.number())),
+            Ok(answer) => {
+                self.met(&format!("rx {}", answer as u8));
+                if answer == Answer::Accepted {
+                    self.accepted(gateway, node, id, &failure_bits, &waiting);
+                }
+            }
+        }
+    }
+
+    fn accepted(
+        &mut self,
+        gateway: &Gateway,
+        node: u8,
+        id: u16,
+        failure_bits: &[bool],
+        waiting_before: &[bool],
+    ) {
+        for (before, now) in failure_bits.iter().zip(self::failure_bits(gateway)) {
+            if *before && !now {
+                self.met("failure bit cleared");
+            }
+        }
+        let plan = gateway.plan();
+        let rows = plan.rx_frames.iter();
+        for row in rows.filter(|row| row.node == node && row.id == id) {
+            let destinations = row.signals.iter().flat_map(|s| &s.destinations);
+            for number in destinations.map(|d| d.tx_frame) {
+                let tx = &plan.tx_frames[number];
+                let waits = gateway.is_waiting(number);
+                match (tx.send_on_reception, tx.send_on_change) {
+                    (true, _) if waiting_before[number] => self.met("scheduled while waiting"),
+                    (true, false) if waits => self.met("sent on reception"),
+                    (false, true) if waiting_before[number] => {}
+                    (false, true) if waits => self.met("sent on change, with a change"),
+                    (false, true) => self.met("sent on change, without a change"),
+                    _ => {}
+                }
+            }
+        }
+    }
+
+    fn tick(&mut self, gateway: &mut Gateway) {
+        let before = failure_bits(gateway);
+        let mut report = vec![0; gateway.plan().rx_frames.len()];
+        if gateway.tick(&mut report).is_err() {
+            return;
+        }
+        if report.is_empty() {
+            self.met("tick with an empty report");
+        }
+        for value in 0..=2 {
+            if report.contains(&value) {
+                self.met(&format!("tick with report byte {value}"));
+            }
+        }
+        for (before, now) in before.iter().zip(failure_bits(gateway)) {
+            if !*before && now {
+                self.met("failure bit set");
+            }
+        }
+    }
+
+    fn take(&mut self, gateway: &mut Gateway, node: u8) {
+        match gateway.take(node) {
+            Err(refusal) => self.met(&format!("take refused {}", refusal.number())),
+            Ok(None) => self.met("take none"),
+            Ok(Some(taken)) => {
+                self.met("take of a frame");
+                if taken.waiting > 100 {
+                    self.met("takes that leave more than 100 waiting");
+                }
+            }
+        }
+    }
+}
+
+/// The failure bit of each row; false where there is none.
+fn failure_bits(gateway: &Gateway) -> Vec<bool> {
+    let rows = gateway.plan().rx_frames.iter();
+    rows.map(|row| match row.failure_bit() {
+        Some((tx_number, position)) => gateway.kept_bit(tx_number, position),
+        None => false,
+    })
+    .collect()
+}
+
+/// Whether each Tx frame waits.
+fn waiting(gateway: &Gateway) -> Vec<bool> {
+    let count = gateway.plan().tx_frames.len();
+    (0..count)
+        .map(|number| gateway.is_waiting(number))
+        .collect()
+}
+
+/// The counts of a good plan, in the order of `LIMITS`.
+fn counts(plan: &Plan) -> [usize; 7] {
+    let in_frames: Vec<usize> = plan.rx_frames.iter().map(|rx| rx.signals.len()).collect();
+    let signals = plan.rx_frames.iter().flat_map(|rx| &rx.signals);
+    let for_signals: Vec<usize> = signals.map(|signal| signal.destinations.len()).collect();
+    [
+        plan.node_count,
+        plan.tx_frames.len(),
+        plan.rx_frames.len(),
+        in_frames.iter().sum(),
+        in_frames.iter().copied().max().unwrap_or(0),
+        for_signals.iter().sum(),
+        for_signals.iter().copied().max().unwrap_or(0),
+    ]
+}
+
+/// The limits that a plan passes at the record of this number, counted from
+/// the bytes.
+fn passed(plan: &[u8], record: usize) -> Vec<(&'static str, usize)> {
+    let mut counts = [0; 7];
+    let mut place = 0;
+    let mut kind = 0;
+    for _ in 0..=record {
+        kind = plan[place];
+        match kind {
+            NODE => counts[0] += 1,
+            TX_FRAME => counts[1] += 1,
+            RX_FRAME => {
+                counts[2] += 1;
+                counts[4] = 0;
+            }
+            SIGNAL => {
+                counts[3] += 1;
+                counts[4] += 1;
+                counts[6] = 0;
+            }
+            DESTINATION => {
+                counts[5] += 1;
+                counts[6] += 1;
+            }
+            _ => {}
+        }
+        place += 1 + body_length(kind).unwrap_or(0);
+    }
+    let of_this_kind: &[usize] = match kind {
+        NODE => &[0],
+        TX_FRAME => &[1],
+        RX_FRAME => &[2],
+        SIGNAL => &[3, 4],
+        _ => &[5, 6],
+    };
+    let passed = of_this_kind.iter().filter(|n| counts[**n] > LIMITS[**n].1);
+    passed.map(|n| LIMITS[*n]).collect()
+}

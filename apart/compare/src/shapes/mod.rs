@@ -1,0 +1,96 @@
+//! The shapes of the cases, in rotation.
+//!
+//! A case is made from its case seed alone. The low 16 bits of a case seed
+//! are the place of its shape in the list of all shapes; the whole seed drives
+//! the random choices inside the shape. So each shape comes once in a round of
+//! the list, whatever the seed of the run.
+
+mod fields;
+mod followers;
+mod general;
+mod inputs;
+mod limits;
+mod order_of_tests;
+mod owners;
+mod records;
+mod showcase;
+
+use crate::rng::{mix, Rng};
+
+type Make = Box<dyn Fn(&mut Rng) -> Vec<u8> + Send + Sync>;
+
+/// A named way to make an input.
+pub struct Shape {
+    pub name: String,
+    make: Make,
+}
+
+impl Shape {
+    fn new(name: &str, make: impl Fn(&mut Rng) -> Vec<u8> + Send + Sync + 'static) -> Shape {
+        Shape {
+            name: name.to_string(),
+            make: Box::new(make),
+        }
+    }
+}
+
+/// One input and where it comes from.
+pub struct Case {
+    pub seed: u64,
+    pub shape: String,
+    pub input: Vec<u8>,
+}
+
+/// All shapes: after every second special one comes an ordinary one.
+pub struct Shapes {
+    shapes: Vec<Shape>,
+}
+
+impl Shapes {
+    pub fn all() -> Shapes {
+        let mut special = Vec::new();
+        special.extend(showcase::shapes());
+        special.extend(limits::shapes());
+        special.extend(fields::shapes());
+        special.extend(followers::shapes());
+        special.extend(owners::shapes());
+        special.extend(order_of_tests::shapes());
+        special.extend(records::shapes());
+        special.extend(inputs::shapes());
+
+        let mut ordinary = Vec::new();
+        let mut shapes = Vec::new();
+        for (number, shape) in special.into_iter().enumerate() {
+            shapes.push(shape);
+            if number % 2 == 1 {
+                if ordinary.is_empty() {
+                    ordinary = general::shapes();
+                }
+                shapes.extend(ordinary.pop());
+            }
+        }
+        Shapes { shapes }
+    }
+
+    pub fn count(&self) -> usize {
+        self.shapes.len()
+    }
+
+    /// The case seed of a case of a run: mixed from the seed of the run and
+    /// the index, with the place of the shape in the low 16 bits.
+    pub fn case_seed(&self, run_seed: u64, index: u64) -> u64 {
+        let mixed = mix(mix(run_seed).wrapping_add(index));
+        let place = index % self.shapes.len() as u64;
+        (mixed & !0xFFFF) | place
+    }
+
+    pub fn case(&self, seed: u64) -> Case {
+        let place = (seed & 0xFFFF) as usize % self.shapes.len();
+        let shape = &self.shapes[place];
+        Case {
+            seed,
+            shape: shape.name.clone(),
+            input: (shape.make)(&mut Rng::new(seed)),
+        }
+    }
+}

@@ -1,0 +1,696 @@
+//! The planted mistakes, as changes of text: file, old text, new text.
+
+pub struct Mistake {
+    pub name: &'static str,
+    pub changes: &'static [(&'static str, &'static str, &'static str)],
+}
+
+const fn mistake(
+    name: &'static str,
+    changes: &'static [(&'static str, &'static str, &'static str)],
+) -> Mistake {
+    Mistake { name, changes }
+}
+
+pub const MISTAKES: &[Mistake] = &[
+    // The errors that look right, in document 01's order.
+    mistake(
+        "searching all rows instead of the node's",
+        &[(
+            "gateway.rs",
+            "row.node == node && row.id == id",
+            "row.node < 16 && node < 16 && row.id == id",
+        )],
+    ),
+    mistake(
+        "clearing the payload at a timeout",
+        &[(
+            "gateway.rs",
+            "        self.put_failure_bit(rx_number, true);\n",
+            "        for signal in &self.plan.rx_frames[rx_number].signals {
+                 for to in &signal.destinations {
+                     for bit in to.position..to.position + signal.size {
+                         let payload = &mut self.tx_states[to.tx_frame].payload;
+                         bits::put(self.plan.order, payload, bit, false);
+                     }
+                 }
+             }
+             self.put_failure_bit(rx_number, true);\n",
+        )],
+    ),
+    mistake(
+        "reloading a waiting frame's Tx timer on reception",
+        &[(
+            "gateway.rs",
+            "        if self.is_waiting(tx_number) {\n",
+            "        if self.is_waiting(tx_number) {
+                 self.tx_states[tx_number].timer.reload();\n",
+        )],
+    ),
+    mistake(
+        "copying the payload when the frame is queued",
+        &[
+            (
+                "gateway.rs",
+                "    payload: [u8; 8],\n    timer: Timer,",
+                "    payload: [u8; 8],\n    queued: [u8; 8],\n    timer: Timer,",
+            ),
+            (
+                "gateway.rs",
+                "                payload: tx_frame.initial_payload,\n",
+                "                payload: tx_frame.initial_payload,
+                 queued: [0; 8],\n",
+            ),
+            (
+                "gateway.rs",
+                ".push_back(tx_number);\n",
+                ".push_back(tx_number);
+                 self.tx_states[tx_number].queued = self.tx_states[tx_number].payload;\n",
+            ),
+            (
+                "gateway.rs",
+                "        let payload = &self.tx_states[tx_number].payload;\n        Ok(Some",
+                "        let payload = &self.tx_states[tx_number].queued;\n        Ok(Some",
+            ),
+        ],
+    ),
+    mistake(
+        "handling a prescaled timer at the p-th tick after loading",
+        &[
+            (
+                "gateway.rs",
+                "    reload: u8,\n    count: u8,\n",
+                "    reload: u16,\n    count: u16,\n",
+            ),
+            (
+                "gateway.rs",
+                "reload: tx_frame.reload,",
+                "reload: u16::from(tx_frame.reload) * u16::from(tx_frame.prescaler),",
+            ),
+            (
+                "gateway.rs",
+                "count: tx_frame.initial_timer,",
+                "count: u16::from(tx_frame.initial_timer) * u16::from(tx_frame.prescaler),",
+            ),
+            (
+                "gateway.rs",
+                "reload: rx_frame.reload,",
+                "reload: u16::from(rx_frame.reload) * u16::from(rx_frame.prescaler),",
+            ),
+            (
+                "gateway.rs",
+                "count: rx_frame.initial_timer,",
+                "count: u16::from(rx_frame.initial_timer) * u16::from(rx_frame.prescaler),",
+            ),
+            (
+                "gateway.rs",
+                "self.tick_number.is_multiple_of(u64::from(prescaler))",
+                "prescaler > 0",
+            ),
+        ],
+    ),
+    // The calls.
+    mistake(
+        "long counter reset at reception",
+        &[(
+            "gateway.rs",
+            "        self.put_failure_bit(rx_number, false);\n",
+            "        self.put_failure_bit(rx_number, false);
+             self.rx_states[rx_number].long_counter = row.long_count;\n",
+        )],
+    ),
+    mistake(
+        "long counter not taken up again",
+        &[(
+            "gateway.rs",
+            "*long_counter = self.plan.rx_frames[rx_number].long_count;",
+            "",
+        )],
+    ),
+    mistake(
+        "a long timeout reported as short",
+        &[("gateway.rs", "return 2;", "return 1;")],
+    ),
+    mistake(
+        "failure bit not cleared",
+        &[("gateway.rs", "self.put_failure_bit(rx_number, false);", "")],
+    ),
+    mistake(
+        "failure bit set at long timeouts only",
+        &[
+            (
+                "gateway.rs",
+                "        self.put_failure_bit(rx_number, true);\n",
+                "",
+            ),
+            (
+                "gateway.rs",
+                "                return 2;",
+                "                self.put_failure_bit(rx_number, true);\n return 2;",
+            ),
+        ],
+    ),
+    mistake(
+        "failure bit in the last destination's frame",
+        &[(
+            "plan.rs",
+            "self.signals.first()?.destinations.first()?",
+            "self.signals.first()?.destinations.last()?",
+        )],
+    ),
+    mistake(
+        "a change of a failure bit schedules",
+        &[(
+            "gateway.rs",
+            "        self.put_failure_bit(rx_number, true);\n",
+            "        self.put_failure_bit(rx_number, true);
+             if let Some((tx_number, _)) = self.plan.rx_frames[rx_number].failure_bit() {
+                 if self.plan.tx_frames[tx_number].send_on_change {
+                     self.schedule(tx_number);
+                 }
+             }\n",
+        )],
+    ),
+    mistake(
+        "a change judged by the last bit",
+        &[(
+            "bits.rs",
+            "        if get(order, destination, q + k) != value {
+            differed = true;
+        }\n",
+            "        differed = get(order, destination, q + k) != value;\n",
+        )],
+    ),
+    mistake(
+        "send on change without a change",
+        &[(
+            "gateway.rs",
+            "(tx_frame.send_on_change && differed)",
+            "(tx_frame.send_on_change && (differed || signal.size == 64))",
+        )],
+    ),
+    mistake(
+        "scheduling leaves the Tx timer",
+        &[(
+            "gateway.rs",
+            "        self.tx_states[tx_number].timer.reload();\n",
+            "",
+        )],
+    ),
+    mistake(
+        "a waiting frame's Tx timer stands still",
+        &[(
+            "gateway.rs",
+            "if handled && self.tx_states[tx_number].timer.handle()",
+            "if handled && !self.is_waiting(tx_number) && self.tx_states[tx_number].timer.handle()",
+        )],
+    ),
+    mistake(
+        "an expired timer stops",
+        &[(
+            "gateway.rs",
+            "        if expired {\n            self.reload();\n        }\n",
+            "",
+        )],
+    ),
+    mistake(
+        "last in, first out",
+        &[("gateway.rs", "queue.pop_front()", "queue.pop_back()")],
+    ),
+    mistake(
+        "the taken frame counted as waiting",
+        &[(
+            "gateway.rs",
+            "waiting: queue.len(),",
+            "waiting: queue.len() + 1,",
+        )],
+    ),
+    mistake(
+        "one queue of at most 200",
+        &[(
+            "gateway.rs",
+            "        if self.is_waiting(tx_number) {\n",
+            "        let node = self.plan.tx_frames[tx_number].node;
+             if self.is_waiting(tx_number) || self.queues[usize::from(node)].len() == 200 {\n",
+        )],
+    ),
+    mistake(
+        "a short payload reloads the Rx timer",
+        &[(
+            "gateway.rs",
+            "            return Ok(Answer::TooShort);\n",
+            "            self.rx_states[rx_number].timer.reload();
+             return Ok(Answer::TooShort);\n",
+        )],
+    ),
+    mistake(
+        "a longer payload answered 2",
+        &[(
+            "gateway.rs",
+            "payload.len() < row.size",
+            "payload.len() != row.size",
+        )],
+    ),
+    mistake(
+        "IDs cut to 11 bits",
+        &[("gateway.rs", "row.id == id)", "row.id == id & 0x7FF)")],
+    ),
+    mistake(
+        "13 before 12",
+        &[(
+            "gateway.rs",
+            "        self.require_node(node)?;
+        require(payload.len() <= 8, Refusal::PayloadTooLong)?;\n",
+            "        require(payload.len() <= 8, Refusal::PayloadTooLong)?;
+        self.require_node(node)?;\n",
+        )],
+    ),
+    mistake(
+        "13 after the lookup",
+        &[
+            (
+                "gateway.rs",
+                "        require(payload.len() <= 8, Refusal::PayloadTooLong)?;\n",
+                "",
+            ),
+            (
+                "gateway.rs",
+                "        if payload.len() < row.size {\n",
+                "        require(payload.len() <= 8, Refusal::PayloadTooLong)?;
+             if payload.len() < row.size {\n",
+            ),
+        ],
+    ),
+    mistake(
+        "the counter moves first",
+        &[
+            ("gateway.rs", "        self.tick_number += 1;\n", ""),
+            (
+                "gateway.rs",
+                "Refusal::ReportTooShort)?;\n",
+                "Refusal::ReportTooShort)?;\n        self.tick_number += 1;\n",
+            ),
+        ],
+    ),
+    mistake(
+        "the counter wraps at 256",
+        &[(
+            "gateway.rs",
+            "self.tick_number += 1;",
+            "self.tick_number = (self.tick_number + 1) % 256;",
+        )],
+    ),
+    mistake(
+        "the counter wraps at 170",
+        &[(
+            "gateway.rs",
+            "self.tick_number += 1;",
+            "self.tick_number = (self.tick_number + 1) % 170;",
+        )],
+    ),
+    mistake(
+        "little order as big",
+        &[(
+            "bits.rs",
+            "0x01 << (position % 8)",
+            "0x80 >> (position % 8)",
+        )],
+    ),
+    mistake(
+        "every signal to its first destination only",
+        &[(
+            "gateway.rs",
+            "for destination in &signal.destinations {",
+            "for destination in signal.destinations.iter().take(1) {",
+        )],
+    ),
+    mistake(
+        "scheduling in Tx order after all copies",
+        &[
+            (
+                "gateway.rs",
+                "                    self.schedule(destination.tx_frame);\n",
+                "                    due.push(destination.tx_frame);\n",
+            ),
+            (
+                "gateway.rs",
+                "        for signal in &row.signals {\n",
+                "        let mut due = Vec::new();\n        for signal in &row.signals {\n",
+            ),
+            (
+                "gateway.rs",
+                "        Ok(Answer::Accepted)\n",
+                "        due.sort();
+             for tx_number in due {
+                 self.schedule(tx_number);
+             }
+             Ok(Answer::Accepted)\n",
+            ),
+        ],
+    ),
+    // The plan: counts.
+    mistake(
+        "15 nodes",
+        &[(
+            "parse.rs",
+            "MOST_NODES: usize = 16",
+            "MOST_NODES: usize = 15",
+        )],
+    ),
+    mistake(
+        "17 nodes",
+        &[(
+            "parse.rs",
+            "MOST_NODES: usize = 16",
+            "MOST_NODES: usize = 17",
+        )],
+    ),
+    mistake(
+        "255 Tx frames",
+        &[(
+            "parse.rs",
+            "MOST_TX_FRAMES: usize = 256",
+            "MOST_TX_FRAMES: usize = 255",
+        )],
+    ),
+    mistake(
+        "257 Tx frames",
+        &[(
+            "parse.rs",
+            "MOST_TX_FRAMES: usize = 256",
+            "MOST_TX_FRAMES: usize = 257",
+        )],
+    ),
+    mistake(
+        "255 Rx frames",
+        &[(
+            "parse.rs",
+            "MOST_RX_FRAMES: usize = 256",
+            "MOST_RX_FRAMES: usize = 255",
+        )],
+    ),
+    mistake(
+        "257 Rx frames",
+        &[(
+            "parse.rs",
+            "MOST_RX_FRAMES: usize = 256",
+            "MOST_RX_FRAMES: usize = 257",
+        )],
+    ),
+    mistake(
+        "1,023 signals",
+        &[(
+            "parse.rs",
+            "MOST_SIGNALS: usize = 1024",
+            "MOST_SIGNALS: usize = 1023",
+        )],
+    ),
+    mistake(
+        "1,025 signals",
+        &[(
+            "parse.rs",
+            "MOST_SIGNALS: usize = 1024",
+            "MOST_SIGNALS: usize = 1025",
+        )],
+    ),
+    mistake(
+        "63 signals in a frame",
+        &[(
+            "parse.rs",
+            "IN_A_FRAME: usize = 64",
+            "IN_A_FRAME: usize = 63",
+        )],
+    ),
+    mistake(
+        "65 signals in a frame",
+        &[(
+            "parse.rs",
+            "IN_A_FRAME: usize = 64",
+            "IN_A_FRAME: usize = 65",
+        )],
+    ),
+    mistake(
+        "2,047 destinations",
+        &[(
+            "parse.rs",
+            "DESTINATIONS: usize = 2048",
+            "DESTINATIONS: usize = 2047",
+        )],
+    ),
+    mistake(
+        "2,049 destinations",
+        &[(
+            "parse.rs",
+            "DESTINATIONS: usize = 2048",
+            "DESTINATIONS: usize = 2049",
+        )],
+    ),
+    mistake(
+        "14 destinations for a signal",
+        &[(
+            "parse.rs",
+            "FOR_A_SIGNAL: usize = 15",
+            "FOR_A_SIGNAL: usize = 14",
+        )],
+    ),
+    mistake(
+        "16 destinations for a signal",
+        &[(
+            "parse.rs",
+            "FOR_A_SIGNAL: usize = 15",
+            "FOR_A_SIGNAL: usize = 16",
+        )],
+    ),
+    // The plan: refusals and their order.
+    mistake(
+        "refusal 9 named at the follower's record",
+        &[(
+            "parse.rs",
+            "so_far.try_missing_follower(rest.first())?;",
+            "so_far
+                 .try_missing_follower(rest.first())
+                 .map_err(|refused| PlanRefusal { record, ..refused })?;",
+        )],
+    ),
+    mistake(
+        "2 before 9",
+        &[(
+            "parse.rs",
+            "so_far.try_missing_follower(rest.first())?;",
+            "if rest.is_empty() || body_length(rest[0]).is_some() {
+                 so_far.try_missing_follower(rest.first())?;
+             }",
+        )],
+    ),
+    mistake(
+        "1 before 9",
+        &[(
+            "parse.rs",
+            "so_far.try_missing_follower(rest.first())?;",
+            "if rest.is_empty() || rest.len() > body_length(rest[0]).unwrap_or(0) {
+                 so_far.try_missing_follower(rest.first())?;
+             }",
+        )],
+    ),
+    mistake(
+        "a missing destination is not looked for",
+        &[(
+            "parse.rs",
+            "[first] if first.destinations.is_empty() => Some(DESTINATION),",
+            "",
+        )],
+    ),
+    mistake(
+        "3 before 1",
+        &[(
+            "parse.rs",
+            "        require(rest.len() >= length, Refusal::PastTheEnd)?;
+        require(self.may_stand_here(kind), Refusal::KindNotHere)?;\n",
+            "        require(self.may_stand_here(kind), Refusal::KindNotHere)?;
+        require(rest.len() >= length, Refusal::PastTheEnd)?;\n",
+        )],
+    ),
+    mistake(
+        "a node after a Tx frame",
+        &[(
+            "parse.rs",
+            "matches!(before, HEAD | NODE),",
+            "matches!(before, HEAD | NODE | TX_FRAME),",
+        )],
+    ),
+    mistake(
+        "a Tx frame needs a node before it",
+        &[(
+            "parse.rs",
+            "matches!(before, HEAD | NODE | TX_FRAME),",
+            "matches!(before, NODE | TX_FRAME),",
+        )],
+    ),
+    mistake(
+        "5 before 4 at a node",
+        &[(
+            "parse.rs",
+            "        require(self.plan.node_count < MOST_NODES, Refusal::CountPassed)?;
+        require(body[0] == 0, Refusal::OutsideRange)?;\n",
+            "        require(body[0] == 0, Refusal::OutsideRange)?;
+        require(self.plan.node_count < MOST_NODES, Refusal::CountPassed)?;\n",
+        )],
+    ),
+    mistake(
+        "6 before 5 for the long count",
+        &[
+            (
+                "parse.rs",
+                "        require(rx_frame.long_count <= 15, Refusal::OutsideRange)?;\n",
+                "",
+            ),
+            (
+                "parse.rs",
+                "        self.plan.rx_frames.push(rx_frame);\n",
+                "        require(rx_frame.long_count <= 15, Refusal::OutsideRange)?;
+             self.plan.rx_frames.push(rx_frame);\n",
+            ),
+        ],
+    ),
+    mistake(
+        "equal keys taken",
+        &[(
+            "parse.rs",
+            "(rx_frame.node, rx_frame.id) > (before.node, before.id)",
+            "(rx_frame.node, rx_frame.id) >= (before.node, before.id)",
+        )],
+    ),
+    mistake(
+        "keys by ID alone",
+        &[(
+            "parse.rs",
+            "(rx_frame.node, rx_frame.id) > (before.node, before.id)",
+            "rx_frame.id > before.id",
+        )],
+    ),
+    mistake(
+        "payload past the size not looked at",
+        &[(
+            "parse.rs",
+            "past_the_size.iter().all(|b| *b == 0)",
+            "past_the_size.len() < 9",
+        )],
+    ),
+    mistake(
+        "failure position of a disabled indicator not looked at",
+        &[(
+            "parse.rs",
+            "require(rx_frame.failure_position <= 63,",
+            "require(enable == 0 || rx_frame.failure_position <= 63,",
+        )],
+    ),
+    mistake(
+        "prescaler 3 taken",
+        &[("parse.rs", "1 | 2 | 10 | 20", "1 | 2 | 3 | 10 | 20")],
+    ),
+    mistake(
+        "Tx frame number by its low byte",
+        &[(
+            "parse.rs",
+            "usize::from(two_byte_number(body[0], body[1]))",
+            "usize::from(body[1])",
+        )],
+    ),
+    mistake(
+        "8 before 7 at a destination",
+        &[
+            (
+                "parse.rs",
+                "        require(end <= 8 * tx_frame.size, Refusal::PassesData)?;\n",
+                "",
+            ),
+            (
+                "parse.rs",
+                "        for bit in position..end {
+            own(tx_frame, bit)?;
+        }\n",
+                "        for bit in position..end.min(64) {
+            own(tx_frame, bit)?;
+        }
+        require(end <= 8 * tx_frame.size, Refusal::PassesData)?;\n",
+            ),
+        ],
+    ),
+    mistake(
+        "9 for the failure bit before 8 of the destination",
+        &[
+            (
+                "parse.rs",
+                "            require(bit < 8 * tx_frame.size, Refusal::BadIndicator)?;\n",
+                "",
+            ),
+            (
+                "parse.rs",
+                "        for bit in position..end {\n",
+                "        if rx_frame.failure_enabled && is_first_signal && for_signal == 0 {
+                 let bit = rx_frame.failure_position;
+                 require(bit < 8 * tx_frame.size, Refusal::BadIndicator)?;
+             }
+             for bit in position..end {\n",
+            ),
+        ],
+    ),
+    mistake(
+        "a failure bit owns nothing",
+        &[(
+            "parse.rs",
+            "            own(tx_frame, bit)?;
+        }
+
+        signal",
+            "        }
+
+        signal",
+        )],
+    ),
+    mistake(
+        "a failure bit past the data refused as 7",
+        &[(
+            "parse.rs",
+            "require(bit < 8 * tx_frame.size, Refusal::BadIndicator)?;",
+            "require(bit < 8 * tx_frame.size, Refusal::PassesData)?;",
+        )],
+    ),
+    // The bench program.
+    mistake(
+        "65,537 bytes taken",
+        &[("bench.rs", "usize = 65_536", "usize = 65_537")],
+    ),
+    mistake(
+        "65,536 bytes not taken",
+        &[("bench.rs", "usize = 65_536", "usize = 65_535")],
+    ),
+    mistake(
+        "a length above 8 handed on as eight bytes",
+        &[("bench.rs", "vec![0; 9]", "vec![0; 8]")],
+    ),
+    mistake(
+        "a cut event is left out without a word",
+        &[(
+            "bench.rs",
+            "            lines.add(INPUT_BAD);
+            break;",
+            "            if rest[0] != 16 {
+                lines.add(INPUT_BAD);
+            }
+            break;",
+        )],
+    ),
+    mistake(
+        "a space after an empty report",
+        &[(
+            "bench.rs",
+            "let mut line = \"tick\".to_string();",
+            "let mut line = if report.is_empty() { \"tick \" } else { \"tick\" }.to_string();",
+        )],
+    ),
+    mistake(
+        "payload in capitals",
+        &[("bench.rs", "{byte:02x}", "{byte:02X}")],
+    ),
+];

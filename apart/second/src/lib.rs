@@ -1,0 +1,13 @@
+//! The gateway of document 01 and its bench program.
+//!
+//! [`run`] is the whole program: all of the input in, all of the lines out.
+//! In the comments, quotation marks hold words of document 01.
+
+pub mod bench;
+pub mod bits;
+pub mod gateway;
+pub mod parse;
+pub mod plan;
+pub mod refusal;
+
+pub use bench::run;

@@ -1,0 +1,19 @@
+//! The second program: the bench program of document 01.
+//!
+//! How it was kept apart: this package was written from document 01 alone, by
+//! someone who had not read the Rattle sources, nor their design, their
+//! specifications or their tests. Where document 01 leaves something open,
+//! the reading taken is listed in NOTES.md. If the two programs differ, that
+//! is a question about document 01 first; neither is changed to look like the
+//! other.
+//!
+//! It is written to be obvious, not fast: plain structs and vectors, one small
+//! module per topic, and comments that quote the sentence they state.
+
+use std::io::{self, Read, Write};
+
+fn main() -> io::Result<()> {
+    let mut input = Vec::new();
+    io::stdin().read_to_end(&mut input)?;
+    io::stdout().write_all(second::run(&input).as_bytes())
+}

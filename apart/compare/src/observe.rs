@@ -1,21 +1,24 @@
 //! Filling the table.
 //!
 //! Each case is played once more through the second program's own calls, and
-//! what is seen there is counted. Nothing is counted by what a shape meant to
-//! do.
+//! what is seen there is counted. Only the last section of the table counts by
+//! the shape: how the inputs were made.
 
 use second::bench::{handed_on, read_event, split_input, Event};
 use second::bits::Order;
 use second::gateway::{Answer, Gateway};
-use second::parse::{body_length, DESTINATION, NODE, RX_FRAME, SIGNAL, TX_FRAME};
+use second::parse::{body_length, two_byte_number, DESTINATION, NODE, RX_FRAME, SIGNAL, TX_FRAME};
 use second::plan::Plan;
 use second::refusal::{PlanRefusal, Refusal};
 
-use crate::tally::{past_row, Tally, INPUT_LENGTHS, LIMITS};
+use crate::shapes::Case;
+use crate::tally::{made_row, past_row, Tally, INPUT_LENGTHS, KINDS, LIMITS, PRESCALERS};
 
 impl Tally {
-    /// Counts what this input meets.
-    pub fn observe(&mut self, input: &[u8]) {
+    /// Counts what this case meets.
+    pub fn observe(&mut self, case: &Case) {
+        self.met(&made_row(&case.shape));
+        let input = case.input.as_slice();
         if INPUT_LENGTHS.contains(&input.len()) {
             self.met(&format!("inputs of {} bytes", input.len()));
         }
@@ -39,6 +42,9 @@ impl Tally {
                 self.met(&past_row(what, limit));
             }
         }
+        if let Some(cause) = cause(plan, refused) {
+            self.met(&format!("{}: {cause}", refused.refusal.number()));
+        }
     }
 
     fn good_plan(&mut self, plan: &Plan) {
@@ -53,7 +59,7 @@ impl Tally {
             .map(|t| t.prescaler)
             .chain(rx.map(|r| r.prescaler))
             .collect();
-        for prescaler in [1, 2, 10, 20] {
+        for prescaler in PRESCALERS {
             if prescalers.contains(&prescaler) {
                 self.met(&format!("plans with prescaler {prescaler}"));
             }
@@ -117,8 +123,14 @@ impl Tally {
             Err(refusal) => self.met(&format!("rx refused {}", refusal.number())),
             Ok(answer) => {
                 self.met(&format!("rx {}", answer as u8));
-                if answer == Answer::Accepted {
-                    self.accepted(gateway, node, id, &failure_bits, &waiting);
+                let mut rows = gateway.plan().rx_frames.iter();
+                match answer {
+                    Answer::Accepted => self.accepted(gateway, node, id, &failure_bits, &waiting),
+                    Answer::NoMatchingRow if id > 2047 => self.met("rx 1 for an ID above 2047"),
+                    Answer::NoMatchingRow if rows.any(|row| row.id == id) => {
+                        self.met("rx 1 for an ID that another node has");
+                    }
+                    _ => {}
                 }
             }
         }
@@ -158,6 +170,7 @@ impl Tally {
 
     fn tick(&mut self, gateway: &mut Gateway) {
         let before = failure_bits(gateway);
+        let waiting_before = waiting(gateway);
         let mut report = vec![0; gateway.plan().rx_frames.len()];
         if gateway.tick(&mut report).is_err() {
             return;
@@ -175,6 +188,23 @@ impl Tally {
                 self.met("failure bit set");
             }
         }
+        let plan = gateway.plan();
+        for (row, byte) in plan.rx_frames.iter().zip(&report) {
+            if *byte != 0 {
+                self.met(&format!(
+                    "timeouts by a timer of prescaler {}",
+                    row.prescaler
+                ));
+            }
+        }
+        for (number, tx) in plan.tx_frames.iter().enumerate() {
+            if !waiting_before[number] && gateway.is_waiting(number) {
+                self.met(&format!(
+                    "Tx frames sent by a timer of prescaler {}",
+                    tx.prescaler
+                ));
+            }
+        }
     }
 
     fn take(&mut self, gateway: &mut Gateway, node: u8) {
@@ -183,6 +213,7 @@ impl Tally {
             Ok(None) => self.met("take none"),
             Ok(Some(taken)) => {
                 self.met("take of a frame");
+                self.met(&format!("takes of {} bytes", taken.size));
                 if taken.waiting > 100 {
                     self.met("takes that leave more than 100 waiting");
                 }
@@ -225,13 +256,24 @@ fn counts(plan: &Plan) -> [usize; 7] {
     ]
 }
 
+/// The places of a plan's records up to the one of this number.
+fn places(plan: &[u8], record: usize) -> Vec<usize> {
+    let mut places = Vec::new();
+    let mut place = 0;
+    for _ in 0..=record {
+        places.push(place);
+        let kind = plan.get(place).copied().unwrap_or(0);
+        place += 1 + body_length(kind).unwrap_or(0);
+    }
+    places
+}
+
 /// The limits that a plan passes at the record of this number, counted from
 /// the bytes.
 fn passed(plan: &[u8], record: usize) -> Vec<(&'static str, usize)> {
     let mut counts = [0; 7];
-    let mut place = 0;
     let mut kind = 0;
-    for _ in 0..=record {
+    for place in places(plan, record) {
         kind = plan[place];
         match kind {
             NODE => counts[0] += 1,
@@ -251,7 +293,6 @@ fn passed(plan: &[u8], record: usize) -> Vec<(&'static str, usize)> {
             }
             _ => {}
         }
-        place += 1 + body_length(kind).unwrap_or(0);
     }
     let of_this_kind: &[usize] = match kind {
         NODE => &[0],
@@ -262,4 +303,53 @@ fn passed(plan: &[u8], record: usize) -> Vec<(&'static str, usize)> {
     };
     let passed = of_this_kind.iter().filter(|n| counts[**n] > LIMITS[**n].1);
     passed.map(|n| LIMITS[*n]).collect()
+}
+
+/// What a plan was refused for, where its number has several causes, seen from
+/// the bytes at the record.
+fn cause(plan: &[u8], refused: PlanRefusal) -> Option<String> {
+    if plan.is_empty() {
+        return Some("empty plan".to_string());
+    }
+    let places = places(plan, refused.record + 1);
+    let bytes = &plan[places[refused.record]..];
+    let next_kind = plan.get(places[refused.record + 1]);
+    let kind = bytes[0];
+    let name = |kind: u8| KINDS[usize::from(kind) - 1];
+    let cause = match (refused.refusal, kind) {
+        (Refusal::PastTheEnd, _) => return Some(format!("{} cut", name(kind))),
+        (Refusal::KindNotHere | Refusal::OutsideRange, _) => {
+            return Some(name(kind).to_string());
+        }
+        (Refusal::PassesData, SIGNAL) => "signal past the data",
+        (Refusal::PassesData, _) => {
+            let number = usize::from(two_byte_number(bytes[1], bytes[2]));
+            let before = places[..refused.record].iter();
+            let tx_frames = before.filter(|place| plan[**place] == TX_FRAME);
+            match number < tx_frames.count() {
+                true => "destination past the data",
+                false => "no such Tx frame",
+            }
+        }
+        (Refusal::TwoOwners, _) => match without_indicator(plan, &places) {
+            true => "failure bit",
+            false => "destination",
+        },
+        (Refusal::BadIndicator, RX_FRAME) if next_kind == Some(&SIGNAL) => "no destination",
+        (Refusal::BadIndicator, RX_FRAME) => "no signal",
+        (Refusal::BadIndicator, _) => "position past the Tx data",
+        _ => return None,
+    };
+    Some(cause.to_string())
+}
+
+/// Whether the plan up to the last but one of these places is good once the
+/// indicator of its last Rx frame is taken away.
+fn without_indicator(plan: &[u8], places: &[usize]) -> bool {
+    let mut plan = plan[..places[places.len() - 1]].to_vec();
+    let is_row = |place: &&usize| plan.get(**place) == Some(&RX_FRAME);
+    if let Some(row) = places.iter().rev().find(is_row) {
+        plan[row + 8] = 0;
+    }
+    Gateway::open(&plan).is_ok()
 }

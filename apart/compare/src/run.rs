@@ -42,7 +42,7 @@ pub fn all(shapes: &Shapes, cases: u64, seed: u64, jobs: usize, command: &[Strin
                         break;
                     }
                     let case = shapes.case(shapes.case_seed(seed, index));
-                    own_tally.observe(&case.input);
+                    own_tally.observe(&case);
                     done.fetch_add(1, Ordering::Relaxed);
                     if let Some(what) = differs(&case.input, command) {
                         let mut found = differences.lock().unwrap_or_else(PoisonError::into_inner);
@@ -72,7 +72,7 @@ pub fn all(shapes: &Shapes, cases: u64, seed: u64, jobs: usize, command: &[Strin
 pub fn one(shapes: &Shapes, case_seed: u64, command: &[String]) -> Outcome {
     let case = shapes.case(case_seed);
     let mut tally = Tally::new();
-    tally.observe(&case.input);
+    tally.observe(&case);
     let what = differs(&case.input, command);
     let differences = what.map(|what| Difference { case, what });
     Outcome {

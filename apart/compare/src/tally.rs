@@ -2,6 +2,8 @@
 
 use std::collections::BTreeMap;
 
+use crate::shapes::Shapes;
+
 pub struct Tally {
     counts: BTreeMap<String, u64>,
 }
@@ -17,52 +19,149 @@ pub const LIMITS: [(&str, usize); 7] = [
     ("destinations for a signal", 15),
 ];
 
+pub const PRESCALERS: [u8; 4] = [1, 2, 10, 20];
+
 pub const INPUT_LENGTHS: [usize; 3] = [65_535, 65_536, 65_537];
 
-/// The rows of the table in their order.
-pub fn rows() -> Vec<String> {
+/// The kinds of records, by their kind byte from 1.
+pub const KINDS: [&str; 6] = [
+    "head",
+    "node",
+    "Tx frame",
+    "Rx frame",
+    "signal",
+    "destination",
+];
+
+/// The sections of the table: a heading, and the rows in their order.
+fn sections() -> Vec<(&'static str, Vec<String>)> {
+    vec![
+        ("plan lines", plan_lines()),
+        ("what a plan was refused for", causes()),
+        ("event lines", event_lines()),
+        ("plans", plans()),
+        ("events", events()),
+        ("how the inputs were made", made()),
+    ]
+}
+
+fn plan_lines() -> Vec<String> {
     let mut rows = vec!["plan ok".to_string()];
     rows.extend((1..=9).map(|number| format!("plan refused {number}")));
-    rows.extend((0..=2).map(|answer| format!("rx {answer}")));
-    let answers = [
+    rows
+}
+
+fn causes() -> Vec<String> {
+    let mut rows = vec!["1: empty plan".to_string()];
+    rows.extend(KINDS.map(|kind| format!("1: {kind} cut")));
+    rows.extend(KINDS.map(|kind| format!("3: {kind}")));
+    rows.extend(LIMITS.map(|(what, limit)| past_row(what, limit)));
+    rows.extend(KINDS.map(|kind| format!("5: {kind}")));
+    let others = [
+        "7: signal past the data",
+        "7: destination past the data",
+        "7: no such Tx frame",
+        "8: destination",
+        "8: failure bit",
+        "9: no signal",
+        "9: no destination",
+        "9: position past the Tx data",
+    ];
+    rows.extend(others.map(String::from));
+    rows
+}
+
+fn event_lines() -> Vec<String> {
+    let mut rows: Vec<String> = (0..=2).map(|answer| format!("rx {answer}")).collect();
+    let others = [
         "rx refused 12",
         "rx refused 13",
-        "take none",
-        "take of a frame",
-        "take refused 12",
         "tick with report byte 0",
         "tick with report byte 1",
         "tick with report byte 2",
         "tick with an empty report",
+        "take none",
+        "take of a frame",
+        "take refused 12",
         "input bad alone",
         "input bad as the first event",
         "input bad after events",
     ];
-    rows.extend(answers.map(String::from));
-    rows.extend([1, 2, 10, 20].map(|p| format!("plans with prescaler {p}")));
-    rows.extend(["plans in big order", "plans in little order"].map(String::from));
+    rows.extend(others.map(String::from));
+    rows
+}
+
+fn plans() -> Vec<String> {
+    let mut rows = ["plans in big order", "plans in little order"]
+        .map(String::from)
+        .to_vec();
+    rows.extend(PRESCALERS.map(|p| format!("plans with prescaler {p}")));
     rows.extend([0, 1, 255].map(|value| format!("plans with timer value {value}")));
-    rows.push("cases of more than 160 ticks".to_string());
     rows.extend(LIMITS.map(|(what, limit)| format!("plans of {limit} {what}")));
-    rows.extend(LIMITS.map(|(what, limit)| past_row(what, limit)));
-    rows.push("takes that leave more than 100 waiting".to_string());
-    rows.extend((0..=12).map(|length| format!("receptions of length {length}")));
-    rows.push("receptions of length above 12".to_string());
     rows.extend(INPUT_LENGTHS.map(|length| format!("inputs of {length} bytes")));
-    let effects = [
+    rows
+}
+
+fn events() -> Vec<String> {
+    let mut rows: Vec<String> = (0..=12)
+        .map(|n| format!("receptions of length {n}"))
+        .collect();
+    rows.extend((0..=8).map(|size| format!("takes of {size} bytes")));
+    rows.extend(PRESCALERS.map(|p| format!("Tx frames sent by a timer of prescaler {p}")));
+    rows.extend(PRESCALERS.map(|p| format!("timeouts by a timer of prescaler {p}")));
+    let others = [
+        "receptions of length above 12",
+        "rx 1 for an ID above 2047",
+        "rx 1 for an ID that another node has",
         "sent on reception",
         "sent on change, with a change",
         "sent on change, without a change",
         "scheduled while waiting",
         "failure bit set",
         "failure bit cleared",
+        "takes that leave more than 100 waiting",
+        "cases of more than 160 ticks",
     ];
-    rows.extend(effects.map(String::from));
+    rows.extend(others.map(String::from));
     rows
 }
 
+/// The row of each shape, each once.
+fn made() -> Vec<String> {
+    let mut rows: Vec<String> = Vec::new();
+    for name in Shapes::all().names() {
+        let row = made_row(name);
+        if !rows.contains(&row) {
+            rows.push(row);
+        }
+    }
+    rows
+}
+
+/// The row for the inputs of a shape: for damaged records and inputs its own
+/// name, for the others what they have in common.
+pub fn made_row(shape: &str) -> String {
+    let row = match shape.split_once(": ") {
+        Some(("records", what)) if what.ends_with(" cut") => "records: one cut",
+        Some(("records", what)) if what.starts_with("kind ") => "records: one inserted",
+        Some(("input", what)) if what.starts_with("reception cut") => "input: reception cut",
+        Some(("records" | "input", _)) => shape,
+        Some(("field", _)) => "a field at or past the end of its range",
+        Some(("follower", _)) => "a missing or bad follower",
+        Some(("owners", _)) => "bits with two owners, or nearly",
+        Some(("order", _)) => "two faults at once",
+        Some(("limit", _)) => "a count at its limit, one below or one past it",
+        _ => "a good plan and a stream for it",
+    };
+    row.to_string()
+}
+
+fn rows() -> Vec<String> {
+    sections().into_iter().flat_map(|(_, rows)| rows).collect()
+}
+
 pub fn past_row(what: &str, limit: usize) -> String {
-    format!("plans of {} {what}, refused 4", limit + 1)
+    format!("4: {} {what}", limit + 1)
 }
 
 impl Default for Tally {
@@ -103,10 +202,19 @@ impl Tally {
         rows.filter(|row| self.count(row) == 0).collect()
     }
 
+    /// The sections, each in two columns.
     pub fn table(&self) -> String {
         let mut table = String::new();
-        for row in rows() {
-            table.push_str(&format!("{:>10}  {row}\n", self.count(&row)));
+        for (heading, rows) in sections() {
+            table.push_str(&format!("{heading}\n"));
+            let half = rows.len().div_ceil(2);
+            for (place, left) in rows[..half].iter().enumerate() {
+                let mut line = format!("{:>8}  {left:<46}", self.count(left));
+                if let Some(right) = rows.get(half + place) {
+                    line.push_str(&format!("{:>8}  {right}", self.count(right)));
+                }
+                table.push_str(&format!("{}\n", line.trim_end()));
+            }
         }
         table
     }

@@ -13,7 +13,7 @@ fn a_thousand_cases_meet_every_row_for_any_seed() {
     for seed in [0, 1, 2, 3, 77, 1_000_003, u64::MAX] {
         let mut tally = Tally::new();
         for index in 0..1000 {
-            tally.observe(&shapes.case(shapes.case_seed(seed, index)).input);
+            tally.observe(&shapes.case(shapes.case_seed(seed, index)));
         }
         assert_eq!(tally.never_met(), Vec::<String>::new(), "seed {seed}");
     }
@@ -63,7 +63,7 @@ fn the_table_counts_what_the_lines_say() {
     let mut outputs = Vec::new();
     for index in 0..1000 {
         let case = shapes.case(shapes.case_seed(4, index));
-        tally.observe(&case.input);
+        tally.observe(&case);
         outputs.push(second::run(&case.input));
     }
     let mut rows = vec!["plan ok", "take none", "rx 0", "rx 1", "rx 2"];

@@ -1,6 +1,9 @@
 // What the calls answer.
 use plan::verdict::Reason;
 use records::record::TxNumber;
+ghost use mathlib.Core.Path.{_≡_};
+ghost use Rattle.plan.specs.Refusals.{numberOf};
+ghost use Rattle.answers.specs.Answers.{refusalNumber};
 
 // Why a call is refused.
 pub enum Refusal {
@@ -54,4 +57,35 @@ pub enum Taken {
 pub enum Fullness {
     Owned(usize),
     Refused(Refusal),
+}
+
+fn reason_number(why: Reason) -> usize
+    ensures { λ r. ⌜ r ≡ numberOf why ⌝ }
+{
+    match why {
+        Reason::Short => 1,
+        Reason::Kind => 2,
+        Reason::Place => 3,
+        Reason::Count => 4,
+        Reason::Range => 5,
+        Reason::Order => 6,
+        Reason::Data => 7,
+        Reason::Owner => 8,
+        Reason::Indicator => 9,
+    }
+}
+
+// Document 01's number of a refusal.
+pub fn refusal_number(why: Refusal) -> usize
+    ensures { λ r. ⌜ r ≡ refusalNumber why ⌝ }
+{
+    match why {
+        Refusal::Plan(reason) => reason_number(reason),
+        Refusal::ShortArea => 10,
+        Refusal::NotOpen => 11,
+        Refusal::NoNode => 12,
+        Refusal::LongPayload => 13,
+        Refusal::ShortReport => 14,
+        Refusal::NoFrame => 15,
+    }
 }

@@ -131,10 +131,10 @@ module _ {P : ℕ → Type 0} (ends : (n : ℕ) → n < 16 → NoEnds P n) (ring
       (o : ℕ) (e : Event) (a : List ℕ) (place : ℕ) (s : Source) → ((k : ℕ) → k < widthOf s → P ((place + k) / 8) → ⊥)
       → Same P a (doneBy o e a place s)
   unfolding doneBy widthOf
-  same-doneBy o (accepted r pl) a place (copy p s) never = same-copied o pl p s place never (same-refl a)
-  same-doneBy o (accepted r pl) a place failure never = same-setBit o place 0 (λ p. never 0 (omega arith) (rw add-zero p)) (same-refl a)
+  same-doneBy o (accepted r pl) a place (copy p s) never = same-copied o _ _ s place never (same-refl a)
+  same-doneBy o (accepted r pl) a place failure never = same-setBit o place _ (λ p. never 0 (omega arith) (rw add-zero p)) (same-refl a)
   same-doneBy o (expired r) a place (copy p s) never = same-refl a
-  same-doneBy o (expired r) a place failure never = same-setBit o place 1 (λ p. never 0 (omega arith) (rw add-zero p)) (same-refl a)
+  same-doneBy o (expired r) a place failure never = same-setBit o place _ (λ p. never 0 (omega arith) (rw add-zero p)) (same-refl a)
 
   same-sentBy :
       (o : ℕ) (e : Event) (a b : List ℕ) (t place : ℕ) (s : Source) → (P (waits t) → ⊥) → (P (txTimer t + 1) → ⊥)

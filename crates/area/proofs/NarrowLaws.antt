@@ -24,7 +24,7 @@ bytes-take (suc n) [] b i = omega arith
 bytes-take (suc n) (x ∷ l) b zero = b 0
 bytes-take (suc n) (x ∷ l) b (suc i) = bytes-take n l (λ j. b (suc j)) i
 
-bytes-plan : (a : List ℕ) → Bytes a → Bytes (planOf a)
+pub bytes-plan : (a : List ℕ) → Bytes a → Bytes (planOf a)
 unfolding planOf
 bytes-plan a b = bytes-take (twoAt a 4 % 23809) (drop 8960 a) (λ i. rw (getD-drop 8960 a i 0) (b (8960 + i)))
 

@@ -14,28 +14,8 @@ use Rattle.base.specs.Numbers.{byteAt, twoAt, setTwo}
 use Rattle.base.proofs.Picks.{picks, passes}
 use Rattle.area.specs.declared.queue.Ends.{Ends}
 use Rattle.area.specs.Layout.{queue, waits, txTimer, txFrame}
-use Rattle.area.specs.Queue.{endsOf, slot, added, removed, setEnds, queued, scheduled, oldest, dequeued}
+use Rattle.area.specs.Queue.{endsOf, slot, added, removed, setEnds, queued, scheduled, oldest, dequeued, entries, queueOf, Sound, Apart}
 use Rattle.area.proofs.Frame.{Same, same-refl, same-two, same-set, same-setTwo, same-setEnds, same-queued, same-dequeued}
-
--- c entries of a ring, from the one that is k behind the oldest on
-unfoldable pub entries : List ℕ → Ends → ℕ → ℕ → List ℕ
-entries a e k zero = []
-entries a e k (suc c) = twoAt a (slot e k) % 256 ∷ entries a e (suc k) c
-
--- the frames that wait on node n, the oldest first
-unfoldable pub queueOf : List ℕ → ℕ → List ℕ
-queueOf a n = entries a (endsOf a n) 0 (endsOf a n .waiting)
-
--- a queue that opening and the calls make: its ring lies among the entries, and no more wait than there is room for
-pub record Sound (e : Ends) : Type 0 where
-  pub ring : e .start + e .room ≤ 528
-  pub few : e .waiting ≤ e .room
-  pub first : e .first < e .room
-  pub room : e .room ≤ 512
-
--- the rings of two queues have no common entry
-abbrev pub Apart : Ends → Ends → Type 0
-Apart e f = (e .start + e .room ≤ f .start) ⊎ (f .start + f .room ≤ e .start)
 
 -- ---- lists
 

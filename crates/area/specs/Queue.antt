@@ -1,7 +1,8 @@
 -- A node's queue: a ring of entries, each a Tx number in two bytes. Its record in the area: where the ring begins, one less than its room,
 -- where the oldest entry is, and how many wait.
-use Prim.Native.Nat.{ℕ, _+_, _-_, _%_}
-use mathlib.Core.List.{List}
+use Prim.Native.Nat.{ℕ, zero, suc, _+_, _-_, _%_, _<_, _≤_}
+use mathlib.Core.Logic.{_⊎_}
+use mathlib.Core.List.{List, [], _∷_}
 use lib.Dec.{eqb}
 use lib.ListN.{set}
 use Rattle.base.specs.Pick.{pick}
@@ -51,3 +52,25 @@ oldest a n = twoAt a (slot (endsOf a n) 0) % 256
 -- the area without it: it "then waits no more"
 unfoldable pub dequeued : List ℕ → ℕ → List ℕ
 dequeued a n = set (setEnds a n (removed (endsOf a n))) (waits (oldest a n)) 0
+
+-- ---- the queue as a list
+
+-- c entries of a ring, from the one that is k behind the oldest on
+unfoldable pub entries : List ℕ → Ends → ℕ → ℕ → List ℕ
+entries a e k zero = []
+entries a e k (suc c) = twoAt a (slot e k) % 256 ∷ entries a e (suc k) c
+
+-- the frames that wait on node n, the oldest first
+unfoldable pub queueOf : List ℕ → ℕ → List ℕ
+queueOf a n = entries a (endsOf a n) 0 (endsOf a n .waiting)
+
+-- a queue that opening and the calls make: its ring lies among the entries, and no more wait than there is room for
+pub record Sound (e : Ends) : Type 0 where
+  pub ring : e .start + e .room ≤ 528
+  pub few : e .waiting ≤ e .room
+  pub first : e .first < e .room
+  pub room : e .room ≤ 512
+
+-- the rings of two queues have no common entry
+abbrev pub Apart : Ends → Ends → Type 0
+Apart e f = (e .start + e .room ≤ f .start) ⊎ (f .start + f .room ≤ e .start)

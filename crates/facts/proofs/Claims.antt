@@ -38,13 +38,13 @@ left n m row x rs = claimsFrom n (waits row) x (row .size) rs ++ allClaims (rows
 pub no-left : (n m : ℕ) (row : Row) (x : ℕ) (rs : List Record) (last : ℕ) → InPlace last rs → last < 4 → left n m row x rs ≡ allClaims (rowsFrom m rs)
 no-left n m row x rs last i l = rw (nothing rs last i l .claims n (waits row) x (row .size))
 
-failure-append : (n : ℕ) (w : Option ℕ) (t : ℕ) (cs ds : List Claim) → withFailure n w t cs ++ ds ≡ withFailure n w t (cs ++ ds)
+pub failure-append : (n : ℕ) (w : Option ℕ) (t : ℕ) (cs ds : List Claim) → withFailure n w t cs ++ ds ≡ withFailure n w t (cs ++ ds)
 unfolding withFailure
 failure-append n none t cs ds = refl
 failure-append n (some q) t cs ds = refl
 
 -- a row begins with the failure position of its frame, and a signal keeps it
-waits-rx : (n : ℕ) (row : Row) (x : RxFrame) → waits (rowAfter n row (Rx x)) ≡ awaited x
+pub waits-rx : (n : ℕ) (row : Row) (x : RxFrame) → waits (rowAfter n row (Rx x)) ≡ awaited x
 unfolding rowAfter awaited pick
 waits-rx n row x = go (eqb (x .enable) 1)
   where
@@ -52,7 +52,7 @@ waits-rx n row x = go (eqb (x .enable) 1)
     go true = refl
     go false = refl
 
-waits-signal : (n : ℕ) (row : Row) (p s : ℕ) → waits (rowAfter n row (Signal p s)) ≡ waits row
+pub waits-signal : (n : ℕ) (row : Row) (p s : ℕ) → waits (rowAfter n row (Signal p s)) ≡ waits row
 unfolding rowAfter pick
 waits-signal n row p s = go (eqb (row .awaits) 0)
   where

@@ -60,12 +60,14 @@ module _ (all sizes : List ℕ) (count : ℕ) (known : SameSizes all sizes count
         le-leb (q + s) (8 * getD sizes t 0) (omega (arith, f .inside, known .same t (f .exists))),
       )
 
-module _ (all sizes sets : List ℕ) (count : ℕ) (known : SameSizes all sizes count) (long : length all ≤ length sets) (n t q x s position : ℕ) (cs : List Claim) where
-  -- the failure bit joins after the claim, and stands before it in the list
-  twice : t < length sets → taken (taken sets (claimOf n t q x s)) (failureOf n t position) ≡ setsBy sets t q s position false
-  unfolding widthOf pick
-  twice there = rw (getD-set-same sets t (owned (getD sets t 0) q s) 0 there, set-set)
+-- the failure bit joins after the claim, and stands before it in the list
+pub twice :
+    (sets : List ℕ) (n t q x s position : ℕ) → t < length sets
+    → taken (taken sets (claimOf n t q x s)) (failureOf n t position) ≡ setsBy sets t q s position false
+unfolding widthOf pick
+twice sets n t q x s position there = rw (getD-set-same sets t (owned (getD sets t 0) q s) 0 there, set-set)
 
+module _ (all sizes sets : List ℕ) (count : ℕ) (known : SameSizes all sizes count) (long : length all ≤ length sets) (n t q x s position : ℕ) (cs : List Claim) where
   pub destination-back :
       (idle : Bool) → Tested sizes sets count t q s position idle → Claimed all (setsBy sets t q s position idle) cs
       → Claimed all sets (withFailure n (pick idle none (some position)) t (claimOf n t q x s ∷ cs))
@@ -78,7 +80,7 @@ module _ (all sizes sets : List ℕ) (count : ℕ) (known : SameSizes all sizes 
       let there : t < length sets = omega (arith, f .exists) in
       let c = claimOf n t q x s in
       let d = failureOf n t position in
-      let joins : Clear (taken (taken sets c) d) cs = rw (twice there) (k .clear) in
+      let joins : Clear (taken (taken sets c) d) cs = rw (twice sets n t q x s position there) (k .clear) in
       let apart : clash (getD (taken sets c) t 0) position 1 ≡ false =
       rw (getD-set-same sets t (owned (getD sets t 0) q s) 0 there) (not-true _ (h .indicator)) in
       let more = clear-back (taken sets c) d cs (simp length-set there) apart joins in
@@ -115,5 +117,5 @@ module _ (all sizes sets : List ℕ) (count : ℕ) (known : SameSizes all sizes 
           indicated = lt-ltb position (8 * getD sizes t 0) (omega (arith, h .fits .0 .inside, known .same t (f .exists)));
           indicator = rw apart;
         },
-        record { clear = rw (twice there) at (b .1); fits = h .fits .1 .1 },
+        record { clear = rw (twice sets n t q x s position there) at (b .1); fits = h .fits .1 .1 },
       )

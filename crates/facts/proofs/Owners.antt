@@ -50,10 +50,10 @@ module _ (sets : List ℕ) (c : Claim) (there : c .tx < length sets) where
   same-frame : getD (taken sets c) (c .tx) 0 ≡ owned (getD sets (c .tx) 0) (c .at) (widthOf (c .from))
   same-frame = getD-set-same sets (c .tx) _ 0 there
 
-  taken-in : (t b : ℕ) → Holds c t b → Has (taken sets c) t b
+  pub taken-in : (t b : ℕ) → Holds c t b → Has (taken sets c) t b
   taken-in t b h = rw (← h .frame, same-frame) (owned-in (getD sets (c .tx) 0) (c .at) (widthOf (c .from)) b (h .low, h .high))
 
-  taken-out : (t b : ℕ) → (Holds c t b → ⊥) → digit (getD (taken sets c) t 0) b ≡ digit (getD sets t 0) b
+  pub taken-out : (t b : ℕ) → (Holds c t b → ⊥) → digit (getD (taken sets c) t 0) b ≡ digit (getD sets t 0) b
   taken-out t b d = go (ℕ-discrete t (c .tx))
     where
       go : Dec (t ≡ c .tx) → digit (getD (taken sets c) t 0) b ≡ digit (getD sets t 0) b

@@ -1,5 +1,5 @@
 // Opening: the check of a plan, and an area that is filled from it.
-pub mod blank;
+mod blank;
 pub mod open;
-pub mod queues;
-pub mod record;
+mod queues;
+mod record;

@@ -1,4 +1,4 @@
 // Reception: the lookup among a node's rows, and what an accepted payload does.
-pub mod lookup;
+mod lookup;
 pub mod receive;
-pub mod walk;
+mod walk;

@@ -1,4 +1,4 @@
 // The tick: Tx timers first, then Rx timers with the report, and last the counter.
-pub mod expiry;
+mod expiry;
 pub mod tick;
-pub mod timers;
+mod timers;

@@ -29,14 +29,14 @@ pub fn shapes() -> Vec<Shape> {
     let mut shapes = Vec::new();
     for (what, make, limit) in limits {
         for count in [limit - 1, limit, limit + 1] {
-            shapes.push(Shape::new(&format!("{count} {what}"), move |rng| {
+            shapes.push(Shape::new(&format!("limit: {count} {what}"), move |rng| {
                 let counts = make(rng, count);
                 let plan = layout(rng, &counts);
                 plan.input(&ordinary(rng, &plan, 30))
             }));
         }
     }
-    shapes.push(Shape::new("every limit at once", |rng| {
+    shapes.push(Shape::new("limit: every one at once", |rng| {
         let counts = Counts {
             nodes: 16,
             tx: 256,

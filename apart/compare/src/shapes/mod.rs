@@ -76,6 +76,10 @@ impl Shapes {
         self.shapes.len()
     }
 
+    pub fn names(&self) -> impl Iterator<Item = &str> {
+        self.shapes.iter().map(|shape| shape.name.as_str())
+    }
+
     /// The case seed of a case of a run: mixed from the seed of the run and
     /// the index, with the place of the shape in the low 16 bits.
     pub fn case_seed(&self, run_seed: u64, index: u64) -> u64 {

@@ -38,12 +38,6 @@ pub fn shapes() -> Vec<Shape> {
             let length = rng.below(records.len());
             records.truncate(length);
         }),
-        damaged("records: cut inside a record", |rng, records| {
-            let place = rng.below(records.len());
-            records.truncate(place + 1);
-            let length = rng.from_to(1, records[place].len() - 1);
-            records[place].truncate(length);
-        }),
         damaged("records: a byte missing in the middle", |rng, records| {
             let place = rng.below(records.len());
             let byte = rng.below(records[place].len());
@@ -108,6 +102,13 @@ pub fn shapes() -> Vec<Shape> {
         }),
     ];
     for kind in 1..=6 {
+        let name = format!("records: kind {kind} cut");
+        shapes.push(damaged(&name, move |rng, records| {
+            let place = any_of(rng, records, kind);
+            records.truncate(place + 1);
+            let length = rng.from_to(1, records[place].len() - 1);
+            records[place].truncate(length);
+        }));
         let name = format!("records: kind {kind} first");
         shapes.push(damaged(&name, move |rng, records| {
             let record = plausible(rng, kind);

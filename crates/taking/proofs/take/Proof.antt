@@ -18,30 +18,67 @@ node-count-requires c κs = (c .before .before .is-marked .ensures .1 (not-false
 
 returns-2 : tie.Need-returns-2
 unfolding takenAnswer takenArea
-returns-2 c = (sym (picks _ _ _ (sym (c .before .before .before .before .is-marked .ensures .0) ∙ not-false _ (c .before .before .before .if1 .left)) ∙ passes _ _ _ (le-ltb _ _ (rw (c .before .node-count .ensures .0) at (c .if2 .taken)))), sym (picks _ _ _ (sym (c .before .before .before .before .is-marked .ensures .0) ∙ not-false _ (c .before .before .before .if1 .left)) ∙ passes _ _ _ (le-ltb _ _ (rw (c .before .node-count .ensures .0) at (c .if2 .taken)))))
+returns-2 c =
+    let c3 = c .before .before .before in
+    let c4 = c3 .before in
+    (sym (picks _ _ _ (sym (c4 .is-marked .ensures .0) ∙ not-false _ (c3 .if1 .left)) ∙ passes _ _ _ (le-ltb _ _ (rw (c .before .node-count .ensures .0) at (c .if2 .taken)))), sym (picks _ _ _ (sym (c4 .is-marked .ensures .0) ∙ not-false _ (c3 .if1 .left)) ∙ passes _ _ _ (le-ltb _ _ (rw (c .before .node-count .ensures .0) at (c .if2 .taken)))))
 
 ends-at-requires : tie.Need-ends-at-requires
-ends-at-requires c κs = (omega (arith, c .before .before .node-count .ensures .1, c .before .if2 .left), (c .before .before .before .before .before .is-marked .ensures .1 (not-false _ (c .before .before .before .before .if1 .left))))
+ends-at-requires c κs =
+    let c4 = c .before .before .before .before in
+    let c5 = c4 .before in
+    (omega (arith, c .before .before .node-count .ensures .1, c .before .if2 .left), (c5 .is-marked .ensures .1 (not-false _ (c4 .if1 .left))))
 
 returns-3 : tie.Need-returns-3
 unfolding takenAnswer takenArea oldestAnswer oldestArea
-returns-3 c = (sym (picks _ _ _ (sym (c .before .before .before .before .before .before .before .before .is-marked .ensures .0) ∙ not-false _ (c .before .before .before .before .before .before .before .if1 .left)) ∙ picks _ _ _ (lt-ltb (c .before .before .before .before .before .before .before .before .before .before .before .args .node) _ (omega (arith, c .before .before .before .before .before .node-count .ensures .0, c .before .before .before .before .if2 .left))) ∙ picks _ _ _ (eq-eqb _ _ (rw (c .before .before .ends-at .ensures .0) at (c .if3 .taken)))), sym (picks _ _ _ (sym (c .before .before .before .before .before .before .before .before .is-marked .ensures .0) ∙ not-false _ (c .before .before .before .before .before .before .before .if1 .left)) ∙ picks _ _ _ (lt-ltb (c .before .before .before .before .before .before .before .before .before .before .before .args .node) _ (omega (arith, c .before .before .before .before .before .node-count .ensures .0, c .before .before .before .before .if2 .left))) ∙ picks _ _ _ (eq-eqb _ _ (rw (c .before .before .ends-at .ensures .0) at (c .if3 .taken)))))
+returns-3 c =
+    let c4 = c .before .before .before .before in
+    let c5 = c4 .before in
+    let c7 = c5 .before .before in
+    let c8 = c7 .before in
+    let c11 = c8 .before .before .before in
+    (sym (picks _ _ _ (sym (c8 .is-marked .ensures .0) ∙ not-false _ (c7 .if1 .left)) ∙ picks _ _ _ (lt-ltb (c11 .args .node) _ (omega (arith, c5 .node-count .ensures .0, c4 .if2 .left))) ∙ picks _ _ _ (eq-eqb _ _ (rw (c .before .before .ends-at .ensures .0) at (c .if3 .taken)))), sym (picks _ _ _ (sym (c8 .is-marked .ensures .0) ∙ not-false _ (c7 .if1 .left)) ∙ picks _ _ _ (lt-ltb (c11 .args .node) _ (omega (arith, c5 .node-count .ensures .0, c4 .if2 .left))) ∙ picks _ _ _ (eq-eqb _ _ (rw (c .before .before .ends-at .ensures .0) at (c .if3 .taken)))))
 
 oldest-of-requires : tie.Need-oldest-of-requires
-oldest-of-requires c κs = (omega (arith, c .before .before .before .before .before .before .node-count .ensures .1, c .before .before .before .before .before .if2 .left), (c .before .before .before .before .before .before .before .before .before .is-marked .ensures .1 (not-false _ (c .before .before .before .before .before .before .before .before .if1 .left))))
+oldest-of-requires c κs =
+    let c5 = c .before .before .before .before .before in
+    let c6 = c5 .before in
+    let c8 = c6 .before .before in
+    let c9 = c8 .before in
+    (omega (arith, c6 .node-count .ensures .1, c5 .if2 .left), (c9 .is-marked .ensures .1 (not-false _ (c8 .if1 .left))))
 
 tx-frame-requires : tie.Need-tx-frame-requires
-tx-frame-requires c κs = (c .before .oldest-of .ensures .1, (c .before .before .before .before .before .before .before .before .before .before .before .is-marked .ensures .1 (not-false _ (c .before .before .before .before .before .before .before .before .before .before .if1 .left))))
+tx-frame-requires c κs =
+    let c10 = c .before .before .before .before .before .before .before .before .before .before in
+    let c11 = c10 .before in
+    (c .before .oldest-of .ensures .1, (c11 .is-marked .ensures .1 (not-false _ (c10 .if1 .left))))
 
 dequeue-requires : tie.Need-dequeue-requires
-dequeue-requires c κs = (omega (arith, c .before .before .before .before .before .before .before .before .before .before .node-count .ensures .1, c .before .before .before .before .before .before .before .before .before .if2 .left), (c .before .before .before .before .before .before .before .before .before .before .before .before .before .is-marked .ensures .1 (not-false _ (c .before .before .before .before .before .before .before .before .before .before .before .before .if1 .left))), rw (c .before .before .before .before .before .before .before .ends-at .ensures .0) at (pos-of-ne-zero (c .before .before .before .before .before .if3 .left)))
+dequeue-requires c κs =
+    let c5 = c .before .before .before .before .before in
+    let c7 = c5 .before .before in
+    let c9 = c7 .before .before in
+    let c10 = c9 .before in
+    let c12 = c10 .before .before in
+    let c13 = c12 .before in
+    (omega (arith, c10 .node-count .ensures .1, c9 .if2 .left), (c13 .is-marked .ensures .1 (not-false _ (c12 .if1 .left))), rw (c7 .ends-at .ensures .0) at (pos-of-ne-zero (c5 .if3 .left)))
 
 returns-4 : tie.Need-returns-4
 unfolding takenAnswer takenArea oldestAnswer oldestArea
-returns-4 c = (
-  rw (c .before .wide .ensures .0, c .before .before .before .before .before .before .before .tx-frame .ensures, c .before .before .before .before .before .before .before .before .before .oldest-of .ensures .0, c .before .before .before .before .before .before .before .before .before .before .before .before .before .ends-at .ensures .0) (sym (picks _ _ _ (sym (c .before .before .before .before .before .before .before .before .before .before .before .before .before .before .before .before .before .before .before .is-marked .ensures .0) ∙ not-false _ (c .before .before .before .before .before .before .before .before .before .before .before .before .before .before .before .before .before .before .if1 .left)) ∙ picks _ _ _ (lt-ltb (c .before .before .before .before .before .before .before .before .before .before .before .before .before .before .before .before .before .before .before .before .before .before .args .node) _ (omega (arith, c .before .before .before .before .before .before .before .before .before .before .before .before .before .before .before .before .node-count .ensures .0, c .before .before .before .before .before .before .before .before .before .before .before .before .before .before .before .if2 .left))) ∙ passes _ _ _ (ne-eqb _ _ (rw (c .before .before .before .before .before .before .before .before .before .before .before .before .before .ends-at .ensures .0) at (c .before .before .before .before .before .before .before .before .before .before .before .if3 .left))))),
-  c .before .before .before .before .before .dequeue .ensures ∙ sym (picks _ _ _ (sym (c .before .before .before .before .before .before .before .before .before .before .before .before .before .before .before .before .before .before .before .is-marked .ensures .0) ∙ not-false _ (c .before .before .before .before .before .before .before .before .before .before .before .before .before .before .before .before .before .before .if1 .left)) ∙ picks _ _ _ (lt-ltb (c .before .before .before .before .before .before .before .before .before .before .before .before .before .before .before .before .before .before .before .before .before .before .args .node) _ (omega (arith, c .before .before .before .before .before .before .before .before .before .before .before .before .before .before .before .before .node-count .ensures .0, c .before .before .before .before .before .before .before .before .before .before .before .before .before .before .before .if2 .left))) ∙ passes _ _ _ (ne-eqb _ _ (rw (c .before .before .before .before .before .before .before .before .before .before .before .before .before .ends-at .ensures .0) at (c .before .before .before .before .before .before .before .before .before .before .before .if3 .left)))),
-)
+returns-4 c =
+    let c5 = c .before .before .before .before .before in
+    let c7 = c5 .before .before in
+    let c9 = c7 .before .before in
+    let c11 = c9 .before .before in
+    let c13 = c11 .before .before in
+    let c15 = c13 .before .before in
+    let c16 = c15 .before in
+    let c18 = c16 .before .before in
+    let c19 = c18 .before in
+    let c22 = c19 .before .before .before in (
+      rw (c .before .wide .ensures .0, c7 .tx-frame .ensures, c9 .oldest-of .ensures .0, c13 .ends-at .ensures .0) (sym (picks _ _ _ (sym (c19 .is-marked .ensures .0) ∙ not-false _ (c18 .if1 .left)) ∙ picks _ _ _ (lt-ltb (c22 .args .node) _ (omega (arith, c16 .node-count .ensures .0, c15 .if2 .left))) ∙ passes _ _ _ (ne-eqb _ _ (rw (c13 .ends-at .ensures .0) at (c11 .if3 .left))))),
+      c5 .dequeue .ensures ∙ sym (picks _ _ _ (sym (c19 .is-marked .ensures .0) ∙ not-false _ (c18 .if1 .left)) ∙ picks _ _ _ (lt-ltb (c22 .args .node) _ (omega (arith, c16 .node-count .ensures .0, c15 .if2 .left))) ∙ passes _ _ _ (ne-eqb _ _ (rw (c13 .ends-at .ensures .0) at (c11 .if3 .left)))),
+    )
 
 pub take-spec : {M : Type 1} → statement M
 take-spec =

@@ -12,10 +12,15 @@ same-length c = c .before .before .walk .kept .1 .1 .1 .1 .0 ∙ simp length-set
 
 returns : tie.Need-returns
 returns c =
-    let v = c .before .before .before .before .before .before .before .before .before .before .before .before .before .before .before .before .args in
-    let frame = c .before .before .before .before .before .before .before .before .before .before .before .rx-frame in
-    (rw (c .before .before .before .before .before .before .before .pad .ensures, c .before .before .before .before .before .before .before .before .before .two-at .ensures .0, c .before .before .before .before .wide .ensures .0, frame .ensures) at (c .before .before .walk .ensures))
-    ∙ walked-accepted (now (v .area)) (v .r) (now (v .payload)) _ (c .before .before .before .before .before .before .before .before .before .before .before .before .before .before .before .before .pre .0) refl
+    let c4 = c .before .before .before .before in
+    let c7 = c4 .before .before .before in
+    let c9 = c7 .before .before in
+    let c11 = c9 .before .before in
+    let c16 = c11 .before .before .before .before .before in
+    let v = c16 .args in
+    let frame = c11 .rx-frame in
+    (rw (c7 .pad .ensures, c9 .two-at .ensures .0, c4 .wide .ensures .0, frame .ensures) at (c .before .before .walk .ensures))
+    ∙ walked-accepted (now (v .area)) (v .r) (now (v .payload)) _ (c16 .pre .0) refl
 
 pub accept-spec : {M : Type 1} → statement M
 accept-spec =

@@ -12,7 +12,8 @@ use Rattle.reception.proofs.receive.receive.Tie as tie
 
 returns : tie.Need-returns
 returns c =
-    let v = c .before .before .before .before .before .args in
+    let c5 = c .before .before .before .before .before in
+    let v = c5 .args in
     not-open (now (v .area)) (v .node) (v .id) (now (v .payload)) (sym (c .before .is-marked .ensures .0) ∙ not-true _ (c .if1 .taken))
 
 node-count-requires : tie.Need-node-count-requires
@@ -20,38 +21,65 @@ node-count-requires c κs = c .before .before .is-marked .ensures .1 (not-false 
 
 returns-2 : tie.Need-returns-2
 returns-2 c =
-    let v = c .before .before .before .before .before .before .before .before .args in
-    no-node (now (v .area)) (v .node) (v .id) (now (v .payload)) (sym (c .before .before .before .before .is-marked .ensures .0) ∙ not-false _ (c .before .before .before .if1 .left)) (rw (c .before .node-count .ensures .0) at (c .if2 .taken))
+    let c3 = c .before .before .before in
+    let c4 = c3 .before in
+    let c8 = c4 .before .before .before .before in
+    let v = c8 .args in
+    no-node (now (v .area)) (v .node) (v .id) (now (v .payload)) (sym (c4 .is-marked .ensures .0) ∙ not-false _ (c3 .if1 .left)) (rw (c .before .node-count .ensures .0) at (c .if2 .taken))
 
 returns-3 : tie.Need-returns-3
 returns-3 c =
-    let v = c .before .before .before .before .before .before .before .before .before .args in
-    long-payload (now (v .area)) (v .node) (v .id) (now (v .payload)) (sym (c .before .before .before .before .before .is-marked .ensures .0) ∙ not-false _ (c .before .before .before .before .if1 .left))
+    let c4 = c .before .before .before .before in
+    let c5 = c4 .before in
+    let c9 = c5 .before .before .before .before in
+    let v = c9 .args in
+    long-payload (now (v .area)) (v .node) (v .id) (now (v .payload)) (sym (c5 .is-marked .ensures .0) ∙ not-false _ (c4 .if1 .left))
     (rw (c .before .before .node-count .ensures .0) at (c .before .if2 .left)) (c .if3 .taken)
 
 look-up-requires : tie.Need-look-up-requires
-look-up-requires c κs = (omega arith, c .before .before .before .before .before .before .is-marked .ensures .1 (not-false _ (c .before .before .before .before .before .if1 .left)))
+look-up-requires c κs =
+    let c5 = c .before .before .before .before .before in
+    let c6 = c5 .before in
+    (omega arith, c6 .is-marked .ensures .1 (not-false _ (c5 .if1 .left)))
 
 returns-4 : tie.Need-returns-4
 unfolding foundAnswer foundArea
 returns-4 c =
-    let v = c .before .before .before .before .before .before .before .before .before .before .before .before .before .args in
-    goes-on (now (v .area)) (v .node) (v .id) (now (v .payload)) (sym (c .before .before .before .before .before .before .before .before .before .is-marked .ensures .0) ∙ not-false _ (c .before .before .before .before .before .before .before .before .if1 .left))
-    (rw (c .before .before .before .before .before .before .node-count .ensures .0) at (c .before .before .before .before .before .if2 .left)) Nothing _ _ (c .before .before .before .before .if3 .left)
+    let c4 = c .before .before .before .before in
+    let c5 = c4 .before in
+    let c6 = c5 .before in
+    let c8 = c6 .before .before in
+    let c9 = c8 .before in
+    let c13 = c9 .before .before .before .before in
+    let v = c13 .args in
+    goes-on (now (v .area)) (v .node) (v .id) (now (v .payload)) (sym (c9 .is-marked .ensures .0) ∙ not-false _ (c8 .if1 .left))
+    (rw (c6 .node-count .ensures .0) at (c5 .if2 .left)) Nothing _ _ (c4 .if3 .left)
     (sym (c .enum-told .given .1) ∙ c .before .before .look-up .ensures .0) refl refl
 
 deliver-requires : tie.Need-deliver-requires
 deliver-requires c κs =
-    let found = c .before .before .before .before .look-up in
-    (found .ensures .1 _ (c .before .before .r .given .1), c .before .before .before .before .before .before .if3 .left, c .before .before .before .before .before .before .before .before .before .before .before .is-marked .ensures .1 (not-false _ (c .before .before .before .before .before .before .before .before .before .before .if1 .left)))
+    let c4 = c .before .before .before .before in
+    let c6 = c4 .before .before in
+    let c10 = c6 .before .before .before .before in
+    let c11 = c10 .before in
+    let found = c4 .look-up in
+    (found .ensures .1 _ (c .before .before .r .given .1), c6 .if3 .left, c11 .is-marked .ensures .1 (not-false _ (c10 .if1 .left)))
 
 returns-5 : tie.Need-returns-5
 returns-5 c =
-    let v = c .before .before .before .before .before .before .before .before .before .before .before .before .before .before .before .before .before .before .args in
+    let c5 = c .before .before .before .before .before in
+    let c7 = c5 .before .before in
+    let c9 = c7 .before .before in
+    let c10 = c9 .before in
+    let c11 = c10 .before in
+    let c13 = c11 .before .before in
+    let c14 = c13 .before in
+    let c18 = c14 .before .before .before .before in
+    let v = c18 .args in
     let given = c .before .before .deliver .ensures in
-    goes-on (now (v .area)) (v .node) (v .id) (now (v .payload)) (sym (c .before .before .before .before .before .before .before .before .before .before .before .before .before .before .is-marked .ensures .0) ∙ not-false _ (c .before .before .before .before .before .before .before .before .before .before .before .before .before .if1 .left))
-    (rw (c .before .before .before .before .before .before .before .before .before .before .before .node-count .ensures .0) at (c .before .before .before .before .before .before .before .before .before .before .if2 .left)) _ _ _ (c .before .before .before .before .before .before .before .before .before .if3 .left)
-    (sym (c .before .before .before .before .before .r .given .1) ∙ c .before .before .before .before .before .before .before .look-up .ensures .0) (given .0) (given .1)
+    goes-on (now (v .area)) (v .node) (v .id) (now (v .payload)) (sym (c14 .is-marked .ensures .0) ∙ not-false _ (c13 .if1 .left))
+    (rw (c11 .node-count .ensures .0) at (c10 .if2 .left)) _ _ _ (c9 .if3 .left)
+    (sym (c5 .r .given .1) ∙ c7 .look-up .ensures .0) (given .0) (given .1)
 
 pub receive-spec : {M : Type 1} → statement M
 receive-spec =

@@ -29,10 +29,16 @@ record-of-requires c κs = omega (arith, c .before .before .loop .inv .0 .len)
 
 loop-again : tie.Need-loop-again Inv-loop μ-loop
 loop-again c =
-    let v = c .before .before .before .before .before .before .before .before .before .before .before .before .before .args in
-    let l = c .before .before .before .before .before .before .before .before .loop in
-    let inside = rw (c .before .before .before .before .before .before .before .before .before .plan-length .ensures .0) at (c .before .before .before .before .before .before .before .loop-test .taken) in
-    let e = met-kept (l .inv .0) (l .k) (sym (c .before .before .before .met .given .1) ∙ c .before .before .before .before .before .record-of .ensures) in (
+    let c3 = c .before .before .before in
+    let c5 = c3 .before .before in
+    let c7 = c5 .before .before in
+    let c8 = c7 .before in
+    let c9 = c8 .before in
+    let c13 = c9 .before .before .before .before in
+    let v = c13 .args in
+    let l = c8 .loop in
+    let inside = rw (c9 .plan-length .ensures .0) at (c7 .loop-test .taken) in
+    let e = met-kept (l .inv .0) (l .k) (sym (c3 .met .given .1) ∙ c5 .record-of .ensures) in (
       l .inv .0,
       c .before .wide .ensures .1,
       c .wide2 .ensures .1,
@@ -40,16 +46,25 @@ loop-again c =
     )
 
 put-one-requires : tie.Need-put-one-requires Inv-loop μ-loop
-put-one-requires c κs = omega (arith, c .before .before .before .before .before .before .before .before .loop .inv .0 .len)
+put-one-requires c κs =
+    let c8 = c .before .before .before .before .before .before .before .before in
+    omega (arith, c8 .loop .inv .0 .len)
 
 loop-again-2 : tie.Need-loop-again-2 Inv-loop μ-loop
 unfolding waitOf pick
 loop-again-2 c =
-    let v = c .before .before .before .before .before .before .before .before .before .before .before .before .before .before .before .before .args in
-    let l = c .before .before .before .before .before .before .before .before .before .before .before .loop in
-    let inside = rw (c .before .before .before .before .before .before .before .before .before .before .before .before .plan-length .ensures .0) at (c .before .before .before .before .before .before .before .before .before .before .loop-test .taken) in
-    let e = met-kept (l .inv .0) (l .k) (sym (c .before .before .before .before .before .before .met2 .given .1) ∙ c .before .before .before .before .before .before .before .before .record-of .ensures) in
-    let q = c .before .before .before .wide3 in
+    let c3 = c .before .before .before in
+    let c6 = c3 .before .before .before in
+    let c8 = c6 .before .before in
+    let c10 = c8 .before .before in
+    let c11 = c10 .before in
+    let c12 = c11 .before in
+    let c16 = c12 .before .before .before .before in
+    let v = c16 .args in
+    let l = c11 .loop in
+    let inside = rw (c12 .plan-length .ensures .0) at (c10 .loop-test .taken) in
+    let e = met-kept (l .inv .0) (l .k) (sym (c6 .met2 .given .1) ∙ c8 .record-of .ensures) in
+    let q = c3 .wide3 in
     let put = c .before .before .put-one .ensures in
     let kept = kept-put (v .order) (now (v .source)) (v .position) (l .p) (l .s) (l .area) _ (q .result) (l .waits) (search needs) (l .inv .2) (q .ensures .1) in (
       rw put (kept-then (l .inv .0) kept),
@@ -59,13 +74,19 @@ loop-again-2 c =
     )
 
 same-length : tie.Need-same-length Inv-loop μ-loop
-same-length c = c .before .before .before .before .loop .inv .0 .len
+same-length c =
+    let c4 = c .before .before .before .before in
+    c4 .loop .inv .0 .len
 
 returns : tie.Need-returns Inv-loop μ-loop
 returns c =
-    let v = c .before .before .before .before .before .before .before .before .before .args in
-    let l = c .before .before .before .before .loop in
-    let inside = rw (c .before .before .before .before .before .plan-length .ensures .0) at (c .before .before .before .loop-test .taken) in
+    let c3 = c .before .before .before in
+    let c4 = c3 .before in
+    let c5 = c4 .before in
+    let c9 = c5 .before .before .before .before in
+    let v = c9 .args in
+    let l = c4 .loop in
+    let inside = rw (c5 .plan-length .ensures .0) at (c3 .loop-test .taken) in
     sym (walk-stop (planOf (now (v .area))) (l .k) (v .order) (now (v .source)) (waitOf (l .waits) (v .position)) (l .p) (l .s) (l .area) inside _ (met-kept (l .inv .0) (l .k) (c .before .record-of .ensures)) (c .match .keys3)) ∙ l .inv .3
 
 same-length-2 : tie.Need-same-length-2 Inv-loop μ-loop
@@ -73,7 +94,8 @@ same-length-2 c = c .before .loop .inv .0 .len
 
 returns-2 : tie.Need-returns-2 Inv-loop μ-loop
 returns-2 c =
-    let v = c .before .before .before .before .before .before .args in
+    let c6 = c .before .before .before .before .before .before in
+    let v = c6 .args in
     let l = c .before .loop in
     sym (walk-end (planOf (now (v .area))) (l .k) (v .order) (now (v .source)) (waitOf (l .waits) (v .position)) (l .p) (l .s) (l .area) (rw (c .before .before .plan-length .ensures .0) at (c .loop-test .left))) ∙ l .inv .3
 

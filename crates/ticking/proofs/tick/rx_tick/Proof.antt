@@ -10,11 +10,19 @@ use Rattle.ticking.proofs.tick.rx_tick.Tie as tie
 
 returns : tie.Need-returns
 unfolding rxTick rxReport due pick
-returns c = simp (eq-eqb _ _ (c .before .before .before .before .before .before .before .before .before .if1 .taken), ← (c .before .before .before .before .before .before .before .time .ensures .0), c .before .before .before .before .if2 .taken) (c .before .before .expire .ensures .0 ∙ rw (c .before .before .before .before .before .before .before .time .ensures .1) (report-timed _ _ (c .before .before .before .before .before .before .before .before .before .before .before .before .pre .0)), cc)
+returns c =
+    let c4 = c .before .before .before .before in
+    let c7 = c4 .before .before .before in
+    let c9 = c7 .before .before in
+    let c12 = c9 .before .before .before in
+    simp (eq-eqb _ _ (c9 .if1 .taken), ← (c7 .time .ensures .0), c4 .if2 .taken) (c .before .before .expire .ensures .0 ∙ rw (c7 .time .ensures .1) (report-timed _ _ (c12 .pre .0)), cc)
 
 returns-2 : tie.Need-returns-2
 unfolding rxTick rxReport due pick
-returns-2 c = simp (eq-eqb _ _ (c .before .before .before .before .before .if1 .taken), ← (c .before .before .before .time .ensures .0), c .if2 .left) (refl, cc)
+returns-2 c =
+    let c3 = c .before .before .before in
+    let c5 = c3 .before .before in
+    simp (eq-eqb _ _ (c5 .if1 .taken), ← (c3 .time .ensures .0), c .if2 .left) (refl, cc)
 
 returns-3 : tie.Need-returns-3
 unfolding rxTick rxReport due pick

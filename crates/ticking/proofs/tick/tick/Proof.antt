@@ -12,14 +12,27 @@ rx-count-requires c κs = c .before .before .is-marked .ensures .1 (c .before .i
 
 returns : tie.Need-returns
 unfolding tickAnswer tickedArea tickedReport pick
-returns c = (simp (← (c .before .before .before .before .is-marked .ensures .0), c .before .before .before .if1 .taken, lt-leb _ _ (rw (c .before .rx-count .ensures .0) at (c .if2 .taken))), (refl, refl))
+returns c =
+    let c3 = c .before .before .before in
+    let c4 = c3 .before in
+    (simp (← (c4 .is-marked .ensures .0), c3 .if1 .taken, lt-leb _ _ (rw (c .before .rx-count .ensures .0) at (c .if2 .taken))), (refl, refl))
 
 run-requires : tie.Need-run-requires
-run-requires c κs = (c .before .before .before .before .before .before .is-marked .ensures .1 (c .before .before .before .before .before .if1 .taken), rw (c .before .before .before .rx-count .ensures .0) at (c .before .before .if2 .left))
+run-requires c κs =
+    let c3 = c .before .before .before in
+    let c5 = c3 .before .before in
+    let c6 = c5 .before in
+    (c6 .is-marked .ensures .1 (c5 .if1 .taken), rw (c3 .rx-count .ensures .0) at (c .before .before .if2 .left))
 
 returns-2 : tie.Need-returns-2
 unfolding tickAnswer tickedArea tickedReport pick
-returns-2 c = (simp (← (c .before .before .before .before .before .before .before .before .before .before .before .is-marked .ensures .0), c .before .before .before .before .before .before .before .before .before .before .if1 .taken, le-leb _ _ (rw (c .before .before .before .before .before .before .before .before .rx-count .ensures .0) at (c .before .before .before .before .before .before .before .if2 .left))), (c .before .before .before .before .run .ensures .0, c .before .before .before .before .run .ensures .1))
+returns-2 c =
+    let c4 = c .before .before .before .before in
+    let c7 = c4 .before .before .before in
+    let c8 = c7 .before in
+    let c10 = c8 .before .before in
+    let c11 = c10 .before in
+    (simp (← (c11 .is-marked .ensures .0), c10 .if1 .taken, le-leb _ _ (rw (c8 .rx-count .ensures .0) at (c7 .if2 .left))), (c4 .run .ensures .0, c4 .run .ensures .1))
 
 returns-3 : tie.Need-returns-3
 unfolding tickAnswer tickedArea tickedReport pick

@@ -1,0 +1,70 @@
+-- What no call alters: the area's length, its mark once it is there, and the bytes from 32,768 on. Assumes nothing.
+use mathlib.Core.Path.{_≡_, refl, _∙_}
+use mathlib.Core.Bool.{true}
+use mathlib.Core.List.{List}
+use Prim.Native.Nat.{ℕ, _≤_}
+use native.Mathlib.Omega.{arith}
+use borrow.Author.Tests.{leb-true, ltb-true}
+use lib.Dec.{leb, ltb}
+use lib.ListN.{length}
+use Rattle.base.specs.Numbers.{byteAt}
+use Rattle.base.proofs.Picks.{both, cases}
+use Rattle.plan.specs.declared.verdict.Verdict.{Verdict}
+use Rattle.plan.specs.declared.verdict.Verdict.the-variants as verdict
+use Rattle.plan.specs.Check.{checkPlan}
+use Rattle.facts.proofs.Bounds.{good-bounds}
+use Rattle.area.specs.Layout.{marked, nodeCount}
+use Rattle.area.proofs.Kept.{Kept, kept-refl, kept-dequeued, in-plan, marked-kept}
+use Rattle.answers.specs.declared.Opened.{Opened}
+use Rattle.opening.specs.Opened.{openedAnswer, openedArea}
+use Rattle.opening.proofs.OpenedLaws.{opened-length, opened-past, opened-marked}
+use Rattle.reception.proofs.ReceptionLaws.{kept-received}
+use Rattle.ticking.specs.Tick.{tickAnswer}
+use Rattle.ticking.proofs.Positions.{bytes-positions}
+use Rattle.ticking.proofs.TickFrame.{kept-ticked}
+use Rattle.ticking.proofs.TickLaws.{by-answer}
+use Rattle.taking.specs.Taken.{oldestArea, takenArea}
+use Rattle.history.specs.Calls.{Call, opening, reception, tick, take, fullness, after}
+use Rattle.demands.specs.Demand1.{Bytes, Stays}
+
+-- where only places of the state change, all three stay
+kept-stays : (c : Call) (a : List ℕ) → Kept a (after c a) → Stays c a
+kept-stays c a k =
+    record { size = k .len; mark = λ m. marked-kept k ∙ m; past = λ j h. k .at j (in-plan j (omega arith)) }
+
+kept-taken : (a : List ℕ) (n : ℕ) → Kept a (takenArea a n)
+unfolding takenArea oldestArea
+kept-taken a n =
+    both (Kept a) (marked a) _ _
+    (cases (Kept a) (ltb n (nodeCount a)) _ _
+    (λ t. let h = ltb-true n (nodeCount a) t in both (Kept a) _ _ _ (kept-refl a) (kept-dequeued a n (omega arith)))
+    (λ t. kept-refl a))
+    (kept-refl a)
+
+-- an opening writes where the plan is good and the area long enough
+opening-stays : (plan a : List ℕ) → Stays (opening plan) a
+unfolding after openedAnswer openedArea
+opening-stays plan a = let p = go (checkPlan plan) refl in record { size = p .0; mark = p .1; past = p .2 }
+  where
+    P : Opened → Type 0
+    P x =
+        (length (openedArea x plan a) ≡ length a) × (marked a ≡ true → marked (openedArea x plan a) ≡ true)
+        × ((j : ℕ) → 32768 ≤ j → byteAt (openedArea x plan a) j ≡ byteAt a j)
+
+    go : (v : Verdict) → checkPlan plan ≡ v → P (openedAnswer v (length a))
+    go (verdict.Good n t r) e =
+        let bounds = good-bounds plan n t r e in
+        cases P (leb 32768 (length a)) _ _
+        (λ l.
+        (opened-length plan a, (λ m. opened-marked plan a (leb-true _ _ l)), opened-past plan a (omega (arith, bounds .short))))
+        (λ l. (refl, (λ m. m), (λ j h. refl)))
+    go (verdict.Refused why number) e = (refl, (λ m. m), (λ j h. refl))
+
+pub call-stays : (c : Call) (a : List ℕ) → Bytes a → Stays c a
+unfolding after
+call-stays (opening plan) a b = opening-stays plan a
+call-stays (reception n id payload) a b = kept-stays _ a (kept-received a b n id payload)
+call-stays (tick report) a b =
+    kept-stays _ a (by-answer (Kept a) (tickAnswer a report) a (kept-ticked a (bytes-positions a b)) (kept-refl a))
+call-stays (take n) a b = kept-stays _ a (kept-taken a n)
+call-stays (fullness t) a b = kept-stays _ a (kept-refl a)

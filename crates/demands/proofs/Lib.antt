@@ -1,0 +1,13 @@
+pub mod Refusals
+pub mod Kept
+pub mod Demand1
+pub mod Cases
+pub mod Tight
+pub mod Counts
+pub mod Last
+pub mod Acceptance
+pub mod Destination
+pub mod Sets
+pub mod Fullness
+pub mod Demand2
+pub mod Demand3

@@ -1,0 +1,116 @@
+// The bench program's input: where the plan ends, the event at a place, and the payload that a reception hands on.
+use text::put_word;
+ghost use mathlib.Core.Path.{_≡_};
+ghost use Prim.Native.Nat.{_+_, _≤_};
+ghost use lib.ListN.{length};
+ghost use Rattle.text.specs.Text.{Put};
+ghost use Rattle.events.specs.Events.{frontOf, eventLength, wholeEvent, eventAt, payloadAt, Inside, Within};
+
+pub enum Front {
+    // the plan is the input from 2 to here, and the events begin here
+    Plan { end: usize },
+    Bad,
+}
+
+pub enum Event {
+    // the data stand by place: eight bytes, five past the record's start
+    Reception {
+        node: usize,
+        id: usize,
+        length: usize,
+    },
+    Tick,
+    Take {
+        node: usize,
+    },
+    // cut, or of an unknown kind
+    Bad,
+    // the input ends here
+    End,
+}
+
+// Where the plan ends, with the fact that it ends within the input.
+pub fn front_of(input: &[u8]) -> Front
+    ensures front { λ r. ⌜ r ≡ frontOf (now (input .entry)) ⌝ }
+    ensures inside { λ r. ⌜ Inside (now (input .entry)) r ⌝ }
+{
+    if 65536 < input.len() {
+        return Front::Bad;
+    }
+    if input.len() < 2 {
+        return Front::Bad;
+    }
+    let end = 2 + base::two_at(input, 0);
+    if input.len() < end {
+        return Front::Bad;
+    }
+    Front::Plan { end }
+}
+
+// How many bytes an event record of a kind has; 0 where there is no such kind.
+fn event_length(kind: u8) -> usize
+    ensures { λ r. ⌜ (r ≡ eventLength kind) × (r ≤ 13) ⌝ }
+{
+    if kind == 16 {
+        return 13;
+    }
+    if kind == 17 {
+        return 1;
+    }
+    if kind == 18 {
+        return 2;
+    }
+    0
+}
+
+// An event record of a kind that is whole.
+fn whole_event(kind: u8, input: &[u8], at: usize) -> Event
+    requires { ⌜ at + eventLength kind ≤ length (now input) ⌝ }
+    ensures { λ r. ⌜ r ≡ wholeEvent kind (now (input .entry)) at ⌝ }
+{
+    if kind == 16 {
+        return Event::Reception {
+            node: base::wide(input[at + 1]),
+            id: base::two_at(input, at + 2),
+            length: base::wide(input[at + 4]),
+        };
+    }
+    if kind == 17 {
+        return Event::Tick;
+    }
+    if kind == 18 {
+        return Event::Take {
+            node: base::wide(input[at + 1]),
+        };
+    }
+    Event::Bad
+}
+
+// The event at a place, with the fact that it lies within the input.
+pub fn event_at(input: &[u8], at: usize) -> Event
+    ensures event { λ r. ⌜ r ≡ eventAt (now (input .entry)) at ⌝ }
+    ensures within { λ r. ⌜ Within (now (input .entry)) at r ⌝ }
+{
+    if input.len() <= at {
+        return Event::End;
+    }
+    let kind = input[at];
+    if input.len() - at < event_length(kind) {
+        return Event::Bad;
+    }
+    whole_event(kind, input, at)
+}
+
+// The payload that the reception at a place hands on, put at the start of `out`; the answer is its length.
+pub fn payload_at(input: &[u8], at: usize, out: &mut [u8]) -> usize
+    requires { ⌜ (at + 13 ≤ length (now input)) × (9 ≤ length (now out)) ⌝ }
+    ensures { λ r. ⌜ (Put (now (out .entry)) 0 (payloadAt (now (input .entry)) at) (now (out .exit)) r) × (r ≤ 9) ⌝ }
+{
+    let length = base::wide(input[at + 4]);
+    if 8 < length {
+        return put_word(out, 0, &[0u8; 9]);
+    }
+    let start = at + 5;
+    let end = start + length;
+    put_word(out, 0, &input[start..end])
+}

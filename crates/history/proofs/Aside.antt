@@ -1,0 +1,97 @@
+-- What queues and timers leave, over any set of places P that names none of theirs, nor a payload where claims are acted on. Assumes nothing.
+use mathlib.Core.Path.{_≡_}
+use mathlib.Core.Bool.{Bool}
+use mathlib.Core.List.{List, [], _∷_}
+use Prim.Native.Nat.{ℕ, zero, suc, _+_, _%_, _<_, _≤_}
+use native.Mathlib.Omega.{arith}
+use lib.Dec.{ltb}
+use lib.ListN.{set}
+use borrow.Author.Tests.{ltb-true}
+use Rattle.base.proofs.Picks.{cases}
+use Rattle.plan.specs.Rows.{Claim}
+use Rattle.facts.specs.Good.{Each}
+use Rattle.facts.specs.Statements.{Small}
+use Rattle.area.specs.Layout.{txTimer, waits, nodeCount}
+use Rattle.area.specs.Queue.{scheduled, oldest, dequeued}
+use Rattle.area.specs.Claims.{Event, sentIf, allDone}
+use Rattle.area.proofs.Frame.{Same, NoEnds, NoRing, Off, same-refl, same-then, same-set, same-pick}
+use Rattle.area.proofs.Frame.{same-scheduled, same-sentIf, same-dequeued, same-done}
+use Rattle.ticking.specs.Tick.{timed, txTick, txTicks, longLowered}
+use Rattle.taking.specs.Taken.{oldestArea, takenArea}
+
+-- P names no end of a queue and no ring entry, no timer's count, which stands second in it, no long counter and no wait
+pub record Aside (P : ℕ → Type 0) : Type 0 where
+  pub ends : (n : ℕ) → n < 16 → NoEnds P n
+  pub ring : NoRing P
+  pub timers : (j : ℕ) → 208 ≤ j → j < 1232 → j % 2 ≡ 1 → P j → ⊥
+  pub low : (j : ℕ) → 1232 ≤ j → j < 2000 → P j → ⊥
+
+module _ {P : ℕ → Type 0} (f : Aside P) where
+  -- ---- timers: at is the place of a reload value
+
+  pub aside-count : (a : List ℕ) (at v : ℕ) → 208 ≤ at → at < 1232 → at % 2 ≡ 0 → Same P a (set a (at + 1) v)
+  aside-count a at v l m e = same-set _ _ (f .timers _ (omega arith) (omega arith) (omega arith)) (same-refl a)
+
+  pub aside-timed : (a : List ℕ) (at : ℕ) → 208 ≤ at → at < 1232 → at % 2 ≡ 0 → Same P a (timed a at)
+  unfolding timed
+  aside-timed a at l m e = aside-count a at _ l m e
+
+  pub aside-long : (a : List ℕ) (r : ℕ) → r < 256 → Same P a (longLowered a r)
+  unfolding longLowered
+  aside-long a r h = same-set _ _ (f .low _ (omega arith) (omega arith)) (same-refl a)
+
+  -- ---- queues
+
+  wait : (t : ℕ) → t < 256 → P (waits t) → ⊥
+  wait t h = f .low _ (omega arith) (omega arith)
+
+  timer : (t : ℕ) → t < 256 → P (txTimer t + 1) → ⊥
+  timer t h = f .timers _ (omega arith) (omega arith) (omega arith)
+
+  pub aside-scheduled : (a : List ℕ) (t : ℕ) → t < 256 → Same P a (scheduled a t)
+  aside-scheduled a t h = same-scheduled (f .ends) (f .ring) a t (wait t h) (timer t h)
+
+  pub aside-sentIf : (flags : ℕ) (changed : Bool) (a : List ℕ) (t : ℕ) → t < 256 → Same P a (sentIf flags changed a t)
+  aside-sentIf flags changed a t h = same-sentIf (f .ends) (f .ring) flags changed a t (wait t h) (timer t h)
+
+  aside-dequeued : (a : List ℕ) (n : ℕ) → n < 16 → Same P a (dequeued a n)
+  unfolding oldest
+  aside-dequeued a n h = same-dequeued a n (f .ends n h) (wait _ (omega arith))
+
+  pub aside-taken : (a : List ℕ) (n : ℕ) → Same P a (takenArea a n)
+  unfolding takenArea oldestArea
+  aside-taken a n =
+      same-pick _ _ _
+      (cases (Same P a) (ltb n (nodeCount a)) _ _
+      (λ e. let l = ltb-true n (nodeCount a) e in same-pick _ _ _ (same-refl a) (aside-dequeued a n (omega arith)))
+      (λ e. same-refl a))
+      (same-refl a)
+
+  -- ---- Tx timers
+
+  pub aside-txTick : (k : ℕ) (a : List ℕ) (t : ℕ) → t < 256 → Same P a (txTick k a t)
+  unfolding txTick
+  aside-txTick k a t h =
+      let s = aside-timed a (txTimer t) (omega arith) (omega arith) (omega arith) in
+      same-pick _ _ _ (same-pick _ _ _ (same-then s (aside-scheduled _ t h)) s) (same-refl a)
+
+  pub aside-txTicks : (k n : ℕ) (a : List ℕ) → n ≤ 256 → Same P a (txTicks k n a)
+  unfolding txTicks
+  aside-txTicks k zero a h = same-refl a
+  aside-txTicks k (suc n) a h = same-then (aside-txTicks k n a (omega arith)) (aside-txTick k _ n (omega arith))
+
+  -- ---- claims, where P names no payload either
+
+  module _ (payloads : (j : ℕ) → 6384 ≤ j → j < 8432 → P j → ⊥) where
+    off : (c : Claim) → Small c → Off P c
+    off c s =
+        record {
+          bits = λ k l. payloads _ (omega (arith, s .bits)) (omega (arith, s .bits));
+          wait = wait _ (omega arith);
+          timer = timer _ (omega arith);
+        }
+
+    pub aside-allDone : (o : ℕ) (e : Event) (cs : List Claim) (a : List ℕ) → Each Small cs → Same P a (allDone o e cs a)
+    unfolding allDone Each
+    aside-allDone o e [] a s = same-refl a
+    aside-allDone o e (c ∷ cs) a s = same-then (same-done (f .ends) (f .ring) o e a c (off c (s .0))) (aside-allDone o e cs _ (s .1))

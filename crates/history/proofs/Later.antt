@@ -1,0 +1,92 @@
+-- What each call after an opening leaves of an area that holds a good plan: every steady byte, and so all that is read there. Assumes nothing.
+use mathlib.Core.Path.{refl}
+use mathlib.Core.List.{List}
+use Prim.Native.Nat.{ℕ, zero, suc, _+_, _<_, _≤_}
+use native.Mathlib.Omega.{arith}
+use lib.ListN.{length}
+use Rattle.records.specs.declared.record.RxNumber.{RxNumber}
+use Rattle.plan.specs.Rows.{rowsOf}
+use Rattle.facts.specs.Good.{GoodPlan}
+use Rattle.area.specs.Layout.{rxTimer, counter, order, txCount, rxCount, claims}
+use Rattle.area.specs.Claims.{Event, expired, allDone}
+use Rattle.area.proofs.Frame.{Same, same-refl, same-then, same-set, same-pick}
+use Rattle.reception.specs.Lookup.{firstRow, rowCount, rowsPart, lookedUp}
+use Rattle.reception.specs.Reception.{acceptedArea, receivedArea}
+use Rattle.reception.proofs.Search.{found-among}
+use Rattle.reception.proofs.ReceptionLaws.{For, by-answer as by-received}
+use Rattle.ticking.specs.Tick.{expiredArea, rxTick, rxTicks, ticked, tickAnswer}
+use Rattle.ticking.proofs.TickLaws.{by-answer as by-ticked}
+use Rattle.tables.specs.Reads.{Reads}
+use Rattle.history.specs.Calls.{Call, opening, reception, tick, take, fullness, after}
+use Rattle.history.proofs.Aside.{aside-count, aside-timed, aside-long, aside-taken, aside-txTicks, aside-allDone}
+use Rattle.history.proofs.Rows.{row-small}
+use Rattle.history.proofs.Steady.{Steady, steady-aside, reads-steady}
+
+-- a call that is no opening
+abbrev pub Later : Call → Type 0
+Later (opening p) = ⊥
+Later (reception n id payload) = Unit {0}
+Later (tick report) = Unit {0}
+Later (take n) = Unit {0}
+Later (fullness t) = Unit {0}
+
+module _ (plan : List ℕ) (good : GoodPlan plan) where
+  few : (r : ℕ) → r < length (rowsOf plan) → r < 256
+  few r l = omega (arith, good .counts .rx)
+
+  -- the lookup finds a number of a row, whatever the ID
+  pub row-found : (a : List ℕ) → Reads plan a → (n id : ℕ) (payload : List ℕ) (r : RxNumber) → For a n id payload r → r .0 < length (rowsOf plan)
+  unfolding lookedUp
+  row-found a reads n id payload r f =
+      let among = found-among (rowCount a n + 1) (rowsPart a n) (rowCount a n) (firstRow a n) id r (f .found) in
+      omega (arith, reads .node n (omega (arith, f .known)) .within)
+
+  steady-claims :
+      (a b : List ℕ) → Reads plan a → (e : Event) (r : ℕ) → r < length (rowsOf plan) → Same Steady b (allDone (order a) e (claims a r) b)
+  steady-claims a b reads e r h =
+      aside-allDone steady-aside (λ j l m p. p .high (omega arith) m) (order a) e (claims a r) b
+      (rw (reads .rx r h .claims) (row-small plan good r h))
+
+  pub steady-accepted : (a : List ℕ) → Reads plan a → (r : ℕ) (payload : List ℕ) → r < length (rowsOf plan) → Same Steady a (acceptedArea a r payload)
+  unfolding acceptedArea
+  steady-accepted a reads r payload h =
+      same-then (aside-count steady-aside a (rxTimer r) _ (omega arith) (omega (arith, few r h)) (omega arith)) (steady-claims a _ reads _ r h)
+
+  pub steady-received : (a : List ℕ) → Reads plan a → (n id : ℕ) (payload : List ℕ) → Same Steady a (receivedArea a n id payload)
+  steady-received a reads n id payload =
+      by-received a n id payload (λ x c. Same Steady a c) (λ x d. same-refl a)
+      (λ r f. steady-accepted a reads (r .0) payload (row-found a reads n id payload r f))
+
+  pub steady-expired : (a : List ℕ) → Reads plan a → (r : ℕ) → r < length (rowsOf plan) → Same Steady a (expiredArea a r)
+  unfolding expiredArea
+  steady-expired a reads r h = same-then (steady-claims a a reads (expired r) r h) (aside-long steady-aside _ r (few r h))
+
+  pub steady-rxTick : (k : ℕ) (a : List ℕ) → Reads plan a → (r : ℕ) → r < length (rowsOf plan) → Same Steady a (rxTick k a r)
+  unfolding rxTick
+  steady-rxTick k a reads r h =
+      let s = aside-timed steady-aside a (rxTimer r) (omega arith) (omega (arith, few r h)) (omega arith) in
+      same-pick _ _ _ (same-pick _ _ _ (same-then s (steady-expired _ (reads-steady s reads) r h)) s) (same-refl a)
+
+  pub steady-rxTicks : (k n : ℕ) (a : List ℕ) → Reads plan a → n ≤ length (rowsOf plan) → Same Steady a (rxTicks k n a)
+  unfolding rxTicks
+  steady-rxTicks k zero a reads h = same-refl a
+  steady-rxTicks k (suc n) a reads h =
+      let s = steady-rxTicks k n a reads (omega arith) in same-then s (steady-rxTick k _ (reads-steady s reads) n (omega arith))
+
+  pub steady-ticked : (a : List ℕ) → Reads plan a → Same Steady a (ticked a)
+  unfolding ticked
+  steady-ticked a reads =
+      let s = aside-txTicks steady-aside (counter a) (txCount a) a (omega arith) in
+      same-set _ _ (λ p. p .count refl)
+      (same-then s (steady-rxTicks (counter a) (rxCount a) _ (reads-steady s reads) (omega (arith, reads .header .rx))))
+
+  pub steady-after : (c : Call) → Later c → (a : List ℕ) → Reads plan a → Same Steady a (after c a)
+  unfolding after
+  steady-after (opening p) later a reads = absurd later
+  steady-after (reception n id payload) later a reads = steady-received a reads n id payload
+  steady-after (tick report) later a reads = by-ticked (Same Steady a) (tickAnswer a report) a (steady-ticked a reads) (same-refl a)
+  steady-after (take n) later a reads = aside-taken steady-aside a n
+  steady-after (fullness t) later a reads = same-refl a
+
+  pub reads-after : (c : Call) → Later c → (a : List ℕ) → Reads plan a → Reads plan (after c a)
+  reads-after c later a reads = reads-steady (steady-after c later a reads) reads

@@ -1,0 +1,12 @@
+pub mod Aside
+pub mod Rows
+pub mod Steady
+pub mod Later
+pub mod Always
+pub mod Replay
+pub mod Bits
+pub mod Owned
+pub mod Ticks
+pub mod Receptions
+pub mod Only
+pub mod Demand3

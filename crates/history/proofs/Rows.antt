@@ -1,0 +1,111 @@
+-- A plan's rows: the claims of each are among the plan's and have its number, and a node and an ID name one of them. Assumes nothing.
+use mathlib.Core.Path.{_≡_, refl, ap}
+use mathlib.Core.List.{List, [], _∷_, _++_}
+use mathlib.Core.Option.{Option, none, some}
+use Prim.Native.Nat.{ℕ, zero, suc, _+_, _<_}
+use native.Mathlib.Omega.{arith}
+use lib.ListN.{length, getD}
+use borrow.Author.Tests.{eq-eqb}
+use Rattle.base.specs.Pick.{pick}
+use Rattle.base.proofs.Picks.{by-eqb}
+use Rattle.records.specs.declared.record.Record.{Record}
+use Rattle.records.specs.declared.record.Record.the-variants.{Head, Node, Tx, Rx, Signal, Destination, BadKind, Cut, End}
+use Rattle.records.specs.Records.{records}
+use Rattle.plan.specs.Progress.{keyOf}
+use Rattle.plan.specs.Rows.{Claim, Row, withFailure, claimsFrom, awaited, rowOf, rowsFrom, rowsOf, allClaims, claimsOf}
+use Rattle.facts.specs.Good.{Each, Rising, GoodPlan}
+use Rattle.facts.specs.Statements.{Small}
+use Rattle.facts.proofs.Lists.{each-at}
+use Rattle.facts.proofs.FactsGood.{facts-good}
+use Rattle.facts.proofs.Bounds.{good-bounds}
+use Rattle.tables.specs.Reads.{noRow, rowAt}
+use Rattle.tables.specs.Statements.{Names}
+use Rattle.history.specs.Past.{numberFor}
+
+-- ---- what holds of each claim of the plan holds of each of a row
+
+each-left : (Q : Claim → Type 0) (xs ys : List Claim) → Each Q (xs ++ ys) → Each Q xs
+unfolding Each
+each-left Q [] ys h = tt
+each-left Q (x ∷ xs) ys h = (h .0, each-left Q xs ys (h .1))
+
+each-right : (Q : Claim → Type 0) (xs ys : List Claim) → Each Q (xs ++ ys) → Each Q ys
+unfolding Each
+each-right Q [] ys h = h
+each-right Q (x ∷ xs) ys h = each-right Q xs ys (h .1)
+
+pub row-each : (Q : Claim → Type 0) (rs : List Row) (d : Row) (r : ℕ) → r < length rs → Each Q (allClaims rs) → Each Q (getD rs r d .claims)
+unfolding allClaims
+row-each Q [] d r l h = absurd (omega arith)
+row-each Q (x ∷ rs) d zero l h = each-left Q (x .claims) (allClaims rs) h
+row-each Q (x ∷ rs) d (suc r) l h = row-each Q rs d r (omega arith) (each-right Q (x .claims) (allClaims rs) h)
+
+pub claims-small : (plan : List ℕ) → GoodPlan plan → Each Small (claimsOf plan)
+claims-small plan good = good-bounds plan _ _ _ (facts-good plan good) .claims
+
+pub row-small : (plan : List ℕ) → GoodPlan plan → (r : ℕ) → r < length (rowsOf plan) → Each Small (rowAt plan r .claims)
+unfolding claimsOf
+row-small plan good r l = row-each Small (rowsOf plan) noRow r l (claims-small plan good)
+
+-- ---- numbers
+
+abbrev pub Of : ℕ → Claim → Type 0
+Of n c = c .rx ≡ n
+
+of-failure : (n : ℕ) (w : Option ℕ) (t : ℕ) (cs : List Claim) → Each (Of n) cs → Each (Of n) (withFailure n w t cs)
+unfolding withFailure Each
+of-failure n none t cs h = h
+of-failure n (some q) t cs h = (refl, h)
+
+of-claims : (n : ℕ) (w : Option ℕ) (p s : ℕ) (rs : List Record) → Each (Of n) (claimsFrom n w p s rs)
+unfolding claimsFrom Each
+of-claims n w p s [] = tt
+of-claims n w p s (Signal p′ s′ ∷ rs) = of-claims n w p′ s′ rs
+of-claims n w p s (Destination t q ∷ rs) = of-failure n w (t .0) _ (refl, of-claims n none p s rs)
+of-claims n w p s (Head order ∷ rs) = tt
+of-claims n w p s (Node type ∷ rs) = tt
+of-claims n w p s (Tx frame ∷ rs) = tt
+of-claims n w p s (Rx frame ∷ rs) = tt
+of-claims n w p s (BadKind ∷ rs) = tt
+of-claims n w p s (Cut kind ∷ rs) = tt
+of-claims n w p s (End ∷ rs) = tt
+
+-- the claims of the rows, which are numbered from n on
+unfoldable pub Numbered : ℕ → List Row → Type 0
+Numbered n [] = Unit {0}
+Numbered n (r ∷ rs) = Each (Of n) (r .claims) × Numbered (suc n) rs
+
+numbered-from : (n : ℕ) (rs : List Record) → Numbered n (rowsFrom n rs)
+unfolding rowsFrom rowOf Numbered
+numbered-from n [] = tt
+numbered-from n (Rx x ∷ rs) = (of-claims n (awaited x) 0 0 rs, numbered-from (suc n) rs)
+numbered-from n (Head order ∷ rs) = numbered-from n rs
+numbered-from n (Node type ∷ rs) = numbered-from n rs
+numbered-from n (Tx frame ∷ rs) = numbered-from n rs
+numbered-from n (Signal p s ∷ rs) = numbered-from n rs
+numbered-from n (Destination t q ∷ rs) = numbered-from n rs
+numbered-from n (BadKind ∷ rs) = numbered-from n rs
+numbered-from n (Cut kind ∷ rs) = numbered-from n rs
+numbered-from n (End ∷ rs) = numbered-from n rs
+
+pub rows-numbered : (plan : List ℕ) → Numbered 0 (rowsOf plan)
+unfolding rowsOf
+rows-numbered plan = numbered-from 0 (records plan)
+
+-- ---- the row of a node and an ID: the keys rise, so that no row before it has them
+
+first-named :
+    (n id : ℕ) (rs : List Row) → Rising rs → (d : Row) (r : ℕ) → r < length rs → getD rs r d .frame .node ≡ n → getD rs r d .frame .id ≡ id
+    → numberFor n id rs ≡ r
+unfolding numberFor Rising keyOf pick
+first-named n id [] h d r l e i = absurd (omega arith)
+first-named n id (x ∷ rs) h d zero l e i = rw (eq-eqb _ _ e, eq-eqb _ _ i)
+first-named n id (x ∷ rs) h d (suc r) l e i =
+    let later : suc (numberFor n id rs) ≡ suc r = ap suc (first-named n id rs (h .1) d r (omega arith) e i) in
+    let above = each-at (λ s. keyOf (x .frame) < keyOf (s .frame)) rs d r (omega arith) (h .0) in
+    by-eqb (λ (m : ℕ). m ≡ suc r) (x .frame .node) n _ _
+    (λ u. by-eqb (λ (m : ℕ). m ≡ suc r) (x .frame .id) id _ _ (λ v. absurd (omega arith)) (λ v. later))
+    (λ u. later)
+
+pub number-named : (plan : List ℕ) → GoodPlan plan → (n id r : ℕ) → Names plan n id r → numberFor n id (rowsOf plan) ≡ r
+number-named plan good n id r h = first-named n id (rowsOf plan) (good .rising) noRow r (h .exists) (h .node) (h .id)

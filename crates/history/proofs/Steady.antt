@@ -1,0 +1,135 @@
+-- The bytes that no call after an opening changes: all but the tick counter, the queues' ends and entries, the counts of the timers, the long
+-- counters, the waits and the payloads. All that `Reads` says is read there. Assumes nothing.
+use mathlib.Core.Path.{_≡_, _∙_}
+use mathlib.Core.List.{List}
+use Prim.Native.Nat.{ℕ, _+_, _%_, _<_, _≤_}
+use native.Mathlib.Omega.{arith}
+use Rattle.base.specs.Numbers.{twoAt}
+use Rattle.area.specs.Layout.{node, queue, txTimer, rxTimer, full, row, txMask, rxMask}
+use Rattle.area.proofs.Frame.{Same, same-two, same-fewer}
+use Rattle.area.proofs.Kept.{Planned, Kept, in-header, in-tables, marked-kept, order-kept, nodeCount-kept, txCount-kept, rxCount-kept}
+use Rattle.area.proofs.Kept.{start-kept, room-kept, planOf-kept, txFrame-kept, rxFrame-kept, claims-kept}
+use Rattle.reception.specs.Lookup.{firstRow, rowCount}
+use Rattle.tables.specs.Reads.{Header, TxTable, RxTable, NodeTable, Rings, Reads}
+use Rattle.history.proofs.Aside.{Aside}
+
+pub record Steady (j : ℕ) : Type 0 where
+  pub count : j ≡ 2 → ⊥
+  pub ends : (n : ℕ) → n < 16 → queue n + 4 ≤ j → j < queue n + 8 → ⊥
+  -- of a timer, the count stands second
+  pub timers : 208 ≤ j → j < 1232 → j % 2 ≡ 1 → ⊥
+  pub low : 1232 ≤ j → j < 2000 → ⊥
+  pub high : 5328 ≤ j → j < 8432 → ⊥
+
+pub planned-steady : (j : ℕ) → Planned j → Steady j
+planned-steady j p =
+    record {
+      count = p .count;
+      ends = p .ends;
+      timers = λ l m e. p .low l (omega arith);
+      low = λ l m. p .low (omega arith) m;
+      high = λ l m. p .high l (omega arith);
+    }
+
+-- from the timers on: a reload value, or a place past the payloads
+steady-from : (j : ℕ) → 208 ≤ j → (j < 1232 → j % 2 ≡ 0) → (1232 ≤ j → 8432 ≤ j) → Steady j
+steady-from j h even past =
+    record {
+      count = λ e. omega arith;
+      ends = λ n l x y. omega arith;
+      timers = λ x y e. omega (arith, even y);
+      low = λ x y. omega (arith, past x);
+      high = λ x y. omega (arith, past (omega arith));
+    }
+
+pub reload-steady : (j : ℕ) → 208 ≤ j → j < 1232 → j % 2 ≡ 0 → Steady j
+reload-steady j h l e = steady-from j h (λ x. e) (λ x. omega arith)
+
+pub mask-steady : (j : ℕ) → 8432 ≤ j → Steady j
+mask-steady j h = steady-from j (omega arith) (λ x. omega arith) (λ x. h)
+
+pub steady-aside : Aside Steady
+steady-aside =
+    record {
+      ends = λ n h j l m p. p .ends n h l m;
+      ring = λ j l m p. p .high l (omega arith);
+      timers = λ j l m e p. p .timers l m e;
+      low = λ j l m p. p .low l m;
+    }
+
+-- ---- what is read there
+
+module _ {a b : List ℕ} (s : Same Steady a b) where
+  pub kept-steady : Kept a b
+  kept-steady = same-fewer planned-steady s
+
+  -- a number of two bytes among the nodes, and in a table
+  node-two : (j : ℕ) → 2 < j → j < 79 → twoAt b j ≡ twoAt a j
+  node-two j h l = same-two kept-steady j (in-header j (omega arith) (λ e. omega arith)) (in-header (j + 1) (omega arith) (λ e. omega arith))
+
+  table-two : (j : ℕ) → 2000 ≤ j → j < 5327 → twoAt b j ≡ twoAt a j
+  table-two j h l = same-two kept-steady j (in-tables j h (omega arith)) (in-tables (j + 1) (omega arith) (omega arith))
+
+  module _ {plan : List ℕ} where
+    header : Header plan a → Header plan b
+    header h =
+        record {
+          size = omega (arith, s .len, h .size);
+          mark = marked-kept kept-steady ∙ h .mark;
+          holds = planOf-kept kept-steady ∙ h .holds;
+          order = order-kept kept-steady ∙ h .order;
+          nodes = nodeCount-kept kept-steady ∙ h .nodes;
+          tx = txCount-kept kept-steady ∙ h .tx;
+          rx = rxCount-kept kept-steady ∙ h .rx;
+        }
+
+    tx-table : (t : ℕ) → t < 256 → TxTable plan a t → TxTable plan b t
+    tx-table t h x =
+        record {
+          frame = txFrame-kept kept-steady t h ∙ x .frame;
+          reload = s .at (txTimer t) (reload-steady _ (omega arith) (omega arith) (omega arith)) ∙ x .reload;
+          mask = s .at (txMask t) (mask-steady _ (omega arith)) ∙ x .mask;
+          full = table-two (full t) (omega arith) (omega arith) ∙ x .full;
+        }
+
+    rx-table : (r : ℕ) → r < 256 → RxTable plan a r → RxTable plan b r
+    rx-table r h x =
+        record {
+          frame = rxFrame-kept kept-steady r h ∙ x .frame;
+          claims = claims-kept kept-steady r h ∙ x .claims;
+          key = rw (table-two (row r) (omega arith) (omega arith), table-two (row r + 2) (omega arith) (omega arith)) (x .key);
+          reload = s .at (rxTimer r) (reload-steady _ (omega arith) (omega arith) (omega arith)) ∙ x .reload;
+          mask = s .at (rxMask r) (mask-steady _ (omega arith)) ∙ x .mask;
+        }
+
+    node-table : (n : ℕ) → n < 16 → NodeTable plan a n → NodeTable plan b n
+    node-table n h x =
+        let first : firstRow b n ≡ firstRow a n = rw (node-two (node n) (omega arith) (omega arith)) in
+        let count : rowCount b n ≡ rowCount a n = rw (node-two (node n + 2) (omega arith) (omega arith)) in
+        record {
+          within = rw (first, count) (x .within);
+          theirs = λ i l. rw first (x .theirs i (omega arith));
+          all = λ r l e. rw (first, count) (x .all r l e);
+        }
+
+    rings : (n : ℕ) → n < 16 → Rings plan a n → Rings plan b n
+    rings n h x =
+        let start = start-kept kept-steady n h in
+        let room = room-kept kept-steady n h in
+        record {
+          within = rw (start, room) (x .within);
+          room = room ∙ x .room;
+          apart = λ m l d. rw (start, room, start-kept kept-steady m l, room-kept kept-steady m l) (x .apart m l d);
+        }
+
+    -- the counts in the header bound the frames
+    pub reads-steady : Reads plan a → Reads plan b
+    reads-steady r =
+        let h = r .header in
+        record {
+          header = header h;
+          tx = λ t l. tx-table t (omega (arith, h .tx)) (r .tx t l);
+          rx = λ t l. rx-table t (omega (arith, h .rx)) (r .rx t l);
+          node = λ n l. node-table n l (r .node n l);
+          rings = λ n l. rings n l (r .rings n l);
+        }

@@ -1,0 +1,4 @@
+pub mod Calls
+pub mod Past
+pub mod Fresh
+pub mod Statements

@@ -1,0 +1,80 @@
+-- What a caller knows of the past from the answers alone: the plan last opened with success, and what has happened to its Rx frames since. A
+-- reception that answers 0 was accepted for the plan's Rx frame of that node and ID; a report's byte that is not 0 is an expiry of its Rx frame.
+use Prim.Native.Nat.{ℕ, suc}
+use mathlib.Core.List.{List, [], _∷_, _++_}
+use mathlib.Core.Option.{Option, none, some}
+use lib.Dec.{eqb}
+use lib.ListN.{length, take}
+use Rattle.base.specs.Pick.{pick}
+use Rattle.plan.specs.Rows.{Row, rowsOf}
+use Rattle.area.specs.Claims.{Event, accepted, expired}
+use Rattle.answers.specs.declared.Opened.{Opened}
+use Rattle.answers.specs.declared.Opened.the-variants as opened
+use Rattle.answers.specs.declared.Received.{Received}
+use Rattle.answers.specs.declared.Received.the-variants.{Accepted, NoRow, TooShort, Refused}
+use Rattle.answers.specs.declared.Ticked.{Ticked}
+use Rattle.answers.specs.declared.Ticked.the-variants as ticked
+use Rattle.reception.specs.Reception.{receivedAnswer}
+use Rattle.ticking.specs.Tick.{tickAnswer, tickedReport}
+use Rattle.history.specs.Calls.{Call, opening, reception, tick, take as taking, fullness, openAnswer, after}
+
+pub record Past : Type 0 where
+  pub plan : Option (List ℕ)
+  pub log : List Event
+
+-- before any opening
+abbrev pub unopened : Past
+unopened = record { plan = none; log = [] }
+
+-- ---- what an answer tells
+
+-- the number of the plan's Rx frame of node n with this ID; where there is none, their count
+unfoldable pub numberFor : ℕ → ℕ → List Row → ℕ
+numberFor n id [] = 0
+numberFor n id (r ∷ rs) = pick (eqb (r .frame .node) n) (pick (eqb (r .frame .id) id) 0 (suc (numberFor n id rs))) (suc (numberFor n id rs))
+
+unfoldable pub toldReception : Received → ℕ → List ℕ → List Event
+toldReception Accepted r payload = accepted r payload ∷ []
+toldReception NoRow r payload = []
+toldReception TooShort r payload = []
+toldReception (Refused why) r payload = []
+
+-- the report's bytes, from that of Rx frame r on
+unfoldable pub toldReport : ℕ → List ℕ → List Event
+toldReport r [] = []
+toldReport r (x ∷ xs) = pick (eqb x 0) (toldReport (suc r) xs) (expired r ∷ toldReport (suc r) xs)
+
+unfoldable pub toldTick : Ticked → ℕ → List ℕ → List Event
+toldTick ticked.Done rows report = toldReport 0 (take rows report)
+toldTick (ticked.Refused why) rows report = []
+
+-- ---- the past after a call on an area
+
+unfoldable pub openedPast : Opened → List ℕ → Past → Past
+openedPast (opened.Open nodes tx rx) plan past = record { plan = some plan; log = [] }
+openedPast (opened.Refused why number) plan past = past
+
+-- nothing is told before an opening
+unfoldable pub told : Option (List ℕ) → Call → List ℕ → List Event
+told none c a = []
+told (some plan) (opening p) a = []
+told (some plan) (reception n id payload) a = toldReception (receivedAnswer a n id payload) (numberFor n id (rowsOf plan)) payload
+told (some plan) (tick report) a = toldTick (tickAnswer a report) (length (rowsOf plan)) (tickedReport (tickAnswer a report) a report)
+told (some plan) (taking n) a = []
+told (some plan) (fullness t) a = []
+
+unfoldable pub pastAfter : Past → Call → List ℕ → Past
+pastAfter past (opening plan) a = openedPast (openAnswer plan a) plan past
+pastAfter past (reception n id payload) a = record { plan = past .plan; log = past .log ++ told (past .plan) (reception n id payload) a }
+pastAfter past (tick report) a = record { plan = past .plan; log = past .log ++ told (past .plan) (tick report) a }
+pastAfter past (taking n) a = past
+pastAfter past (fullness t) a = past
+
+-- after some calls
+unfoldable pub pastAfterAll : Past → List Call → List ℕ → Past
+pastAfterAll past [] a = past
+pastAfterAll past (c ∷ cs) a = pastAfterAll (pastAfter past c a) cs (after c a)
+
+-- since the caller began
+abbrev pub pastOf : List Call → List ℕ → Past
+pastOf cs a = pastAfterAll unopened cs a

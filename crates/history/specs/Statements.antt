@@ -1,0 +1,55 @@
+-- Demand 3: "Over any calls since the last successful opening, every kept payload bit equals the bit worked out afresh from the history." The
+-- calls are any, on any area, openings among them, good and refused.
+use mathlib.Core.Path.{_≡_}
+use mathlib.Core.List.{List}
+use mathlib.Core.Option.{some}
+use Prim.Native.Nat.{ℕ, _<_}
+use lib.ListN.{length}
+use Rattle.bits.specs.Payload.{bitAt}
+use Rattle.records.specs.Records.{records}
+use Rattle.plan.specs.Rows.{txOf, orderIn}
+use Rattle.area.specs.Layout.{spot}
+use Rattle.tables.specs.Statements.{Names}
+use Rattle.tables.specs.Reads.{Reads}
+use Rattle.history.specs.Calls.{Call, reception, tick, take, fullness, after, afterAll}
+use Rattle.history.specs.Past.{pastOf}
+use Rattle.history.specs.Fresh.{Owner, nobody, signal, indicator, owner, fresh}
+
+-- bit b of Tx frame t's payload, as an area keeps it, in the order of the plan
+abbrev pub keptBit : List ℕ → List ℕ → ℕ → ℕ → ℕ
+keptBit plan a t b = bitAt (orderIn (records plan)) a (spot t b)
+
+abbrev pub EveryBitFresh : Type 0
+EveryBitFresh =
+    (a : List ℕ) (calls : List Call) (plan : List ℕ) → pastOf calls a .plan ≡ some plan → (t b : ℕ) → t < length (txOf plan) → b < 64
+    → keptBit plan (afterAll calls a) t b ≡ fresh plan (pastOf calls a .log) t b
+
+-- the area still holds the plan last opened: every table says what the plan says
+abbrev pub PlanStays : Type 0
+PlanStays = (a : List ℕ) (calls : List Call) (plan : List ℕ) → pastOf calls a .plan ≡ some plan → Reads plan (afterAll calls a)
+
+-- ---- "A reception alters only bits owned by its frame, a tick only failure bits, a take none."
+
+-- a bit that Rx frame r owns, as a signal's or as its failure bit
+unfoldable pub OwnedBy : ℕ → Owner → Type 0
+OwnedBy r nobody = ⊥
+OwnedBy r (signal q k) = r ≡ q
+OwnedBy r (indicator q) = r ≡ q
+
+unfoldable pub IsIndicator : Owner → Type 0
+IsIndicator nobody = ⊥
+IsIndicator (signal r k) = ⊥
+IsIndicator (indicator r) = Unit {0}
+
+-- of an area that some calls left, with the plan last opened there
+pub record OnlyTheirs (plan a : List ℕ) (t b : ℕ) : Type 0 where
+  pub reception : (n id : ℕ) (payload : List ℕ) → ((r : ℕ) → Names plan n id r → OwnedBy r (owner plan t b) → ⊥)
+      → keptBit plan (after (reception n id payload) a) t b ≡ keptBit plan a t b
+  pub tick : (report : List ℕ) → (IsIndicator (owner plan t b) → ⊥) → keptBit plan (after (tick report) a) t b ≡ keptBit plan a t b
+  pub take : (n : ℕ) → keptBit plan (after (take n) a) t b ≡ keptBit plan a t b
+  pub fullness : (x : ℕ) → keptBit plan (after (fullness x) a) t b ≡ keptBit plan a t b
+
+abbrev pub CallsAlterTheirs : Type 0
+CallsAlterTheirs =
+    (a : List ℕ) (calls : List Call) (plan : List ℕ) → pastOf calls a .plan ≡ some plan → (t b : ℕ) → t < length (txOf plan) → b < 64
+    → OnlyTheirs plan (afterAll calls a) t b

@@ -1,0 +1,84 @@
+-- The words of a reception, a tick and a fullness give back their answers, so no two answers of one of these calls have one word. Assumes nothing.
+use mathlib.Core.Path.{_≡_, refl}
+use mathlib.Core.List.{List}
+use Prim.Native.Nat.{ℕ, _%_, _≤_, _<_}
+use native.Mathlib.Omega.{arith}
+use borrow.Author.Tests.{ne-eqb}
+use Rattle.base.specs.Pick.{pick}
+use Rattle.base.proofs.Picks.{both}
+use Rattle.answers.specs.declared.Refusal.{Refusal}
+use Rattle.answers.specs.declared.Refusal.the-variants.{NotOpen, NoNode, LongPayload, NoFrame}
+use Rattle.answers.specs.declared.Received.{Received}
+use Rattle.answers.specs.declared.Received.the-variants as received
+use Rattle.answers.specs.declared.Ticked.{Ticked}
+use Rattle.answers.specs.declared.Ticked.the-variants as ticked
+use Rattle.answers.specs.declared.Fullness.{Fullness}
+use Rattle.answers.specs.declared.Fullness.the-variants as fullness
+use Rattle.answers.specs.Answers.{refusalNumber, receivedNumber}
+use Rattle.reception.specs.declared.lookup.Found.{Found}
+use Rattle.reception.specs.declared.lookup.Found.the-variants.{At, Nothing}
+use Rattle.reception.specs.Lookup.{lookedUp}
+use Rattle.reception.specs.Reception.{foundAnswer, receivedAnswer}
+use Rattle.taking.specs.Taken.{fullnessAnswer}
+use Rattle.interface.specs.Words.{first, tickedWord, fullnessWord}
+use Rattle.interface.specs.Unpacked.{receivedOf, tickedOf, fullnessOf}
+use Rattle.interface.proofs.WordLaws.{first-packed, second-packed}
+use Rattle.interface.proofs.Numbers.{numbered}
+
+-- ---- reception: its refusals are above its answers 0, 1 and 2
+
+abbrev ReceivedBack : Received → Type 0
+ReceivedBack x = receivedOf (receivedNumber x) ≡ x
+
+received-refused : (why : Refusal) → 3 ≤ refusalNumber why → ReceivedBack (received.Refused why)
+unfolding receivedOf receivedNumber pick
+received-refused why l =
+    let k = refusalNumber why in
+    rw (ne-eqb k 0 (omega arith), ne-eqb k 1 (omega arith), ne-eqb k 2 (omega arith), numbered why .back)
+
+answers-back : ReceivedBack received.Accepted × ReceivedBack received.NoRow × ReceivedBack received.TooShort
+unfolding receivedOf receivedNumber pick
+answers-back = (refl, refl, refl)
+
+found-back : (a : List ℕ) (f : Found) (payload : List ℕ) → ReceivedBack (foundAnswer a f payload)
+unfolding foundAnswer
+found-back a (At r) payload = both ReceivedBack _ _ _ (answers-back .2) (answers-back .0)
+found-back a Nothing payload = answers-back .1
+
+pub received-back :
+    (a : List ℕ) (n id : ℕ) (payload : List ℕ) → receivedOf (receivedNumber (receivedAnswer a n id payload)) ≡ receivedAnswer a n id payload
+unfolding receivedAnswer refusalNumber
+received-back a n id payload =
+    both ReceivedBack _ _ _
+    (both ReceivedBack _ _ _
+    (both ReceivedBack _ _ _ (found-back a (lookedUp a n id) payload) (received-refused LongPayload (omega arith)))
+    (received-refused NoNode (omega arith)))
+    (received-refused NotOpen (omega arith))
+
+-- ---- tick
+
+pub ticked-back : (x : Ticked) → tickedOf (tickedWord x) ≡ x
+unfolding tickedOf tickedWord pick
+ticked-back ticked.Done = refl
+ticked-back (ticked.Refused why) = let n = numbered why in rw (ne-eqb (refusalNumber why) 0 (omega arith), n .back)
+
+-- ---- fullness
+
+abbrev FullnessBack : Fullness → Type 0
+FullnessBack x = fullnessOf (fullnessWord x) ≡ x
+
+fullness-refused : (why : Refusal) → FullnessBack (fullness.Refused why)
+unfolding fullnessOf fullnessWord first pick
+fullness-refused why =
+    let n = numbered why in
+    let e : refusalNumber why % 65536 ≡ refusalNumber why = omega arith in
+    rw (e, ne-eqb (refusalNumber why) 0 (omega arith), n .back)
+
+owned-back : (n : ℕ) → n < 65 → FullnessBack (fullness.Owned n)
+unfolding fullnessOf fullnessWord pick
+owned-back n h = let e : n % 65536 ≡ n = omega arith in rw (first-packed, second-packed, e)
+
+pub fullness-back : (a : List ℕ) (t : ℕ) → fullnessOf (fullnessWord (fullnessAnswer a t)) ≡ fullnessAnswer a t
+unfolding fullnessAnswer
+fullness-back a t =
+    both FullnessBack _ _ _ (both FullnessBack _ _ _ (owned-back _ (omega arith)) (fullness-refused NoFrame)) (fullness-refused NotOpen)

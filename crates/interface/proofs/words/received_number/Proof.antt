@@ -1,0 +1,13 @@
+-- `interface::words::received_number` meets its contract: by the variant. Assumes nothing.
+use borrow.Author.Needs.{needs}
+use Rattle.answers.specs.Answers.{receivedNumber}
+use Rattle.interface.proofs.words.received_number.Statement.{statement}
+use Rattle.interface.proofs.words.received_number.Tie as tie
+
+pub received-number-spec : {M : Type 1} → statement M
+unfolding receivedNumber
+received-number-spec =
+    tie.close
+    (tie.spec (λ c. search needs) (λ c. search needs) (λ c. search needs) (λ c. search needs) (λ c κs. search needs)
+    (λ c. rw (c .enum-told .given .1)) (λ c. rw (c .enum-told2 .given .1)) (λ c. rw (c .enum-told3 .given .1))
+    (λ c. rw (c .before .before .answer .given .1) (c .refusal-number .ensures)))

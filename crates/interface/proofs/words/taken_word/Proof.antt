@@ -1,0 +1,15 @@
+-- `interface::words::taken_word` meets its contract: by the variant. Assumes nothing.
+use borrow.Author.Needs.{needs}
+use Rattle.interface.specs.Words.{takenWord}
+use Rattle.interface.proofs.words.taken_word.Statement.{statement}
+use Rattle.interface.proofs.words.taken_word.Tie as tie
+
+pub taken-word-spec : {M : Type 1} → statement M
+unfolding takenWord
+taken-word-spec =
+    tie.close
+    (tie.spec (λ c. search needs) (λ c. search needs) (λ c. search needs) (λ c. search needs) (λ c κs. search needs)
+    (λ c. search needs) (λ c κs. search needs)
+    (λ c. rw (c .enum-told .given .1))
+    (λ c. rw (c .before .before .before .answer .given .1) (c .pack .ensures))
+    (λ c. rw (c .before .before .answer2 .given .1) (c .refusal-number .ensures)))

@@ -1,0 +1,16 @@
+-- `lines::plan_line` meets its contract: by the variant. Assumes nothing.
+use borrow.Author.Needs.{needs}
+use Rattle.lines.specs.Lines.{planLine}
+use Rattle.lines.proofs.plan_line.Statement.{statement}
+use Rattle.lines.proofs.plan_line.Tie as tie
+
+pub plan-line-spec : {M : Type 1} → statement M
+unfolding planLine
+plan-line-spec =
+    tie.close
+    (tie.spec (λ c. search needs) (λ c. search needs) (λ c κs. search needs) (λ c. search needs) (λ c. search needs) (λ c κs. search needs)
+    (λ c κs. search needs) (λ c. search needs)
+    (λ c. rw (c .before .before .before .before .before .before .answer .given .1) (c .before .before .line-of-three .ensures))
+    (λ c. search needs)
+    (λ c. let number = c .before .before .before .before in
+    rw (number .before .before .before .answer2 .given .1, ← (number .refusal-number .ensures)) (c .before .before .line-of-two .ensures)))

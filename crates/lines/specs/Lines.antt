@@ -1,0 +1,61 @@
+-- The bench program's lines, each of them ending in one line feed.
+use Prim.Native.Nat.{ℕ}
+use mathlib.Core.List.{List, [], _∷_, _++_}
+use lib.Dec.{eqb}
+use Rattle.base.specs.Pick.{pick}
+use Rattle.answers.specs.declared.Refusal.{Refusal}
+use Rattle.answers.specs.declared.Opened.{Opened}
+use Rattle.answers.specs.declared.Opened.the-variants as opened
+use Rattle.answers.specs.declared.Received.{Received}
+use Rattle.answers.specs.declared.Received.the-variants as received
+use Rattle.answers.specs.declared.Ticked.{Ticked}
+use Rattle.answers.specs.declared.Ticked.the-variants as ticked
+use Rattle.answers.specs.declared.Taken.{Taken}
+use Rattle.answers.specs.declared.Taken.the-variants as taken
+use Rattle.answers.specs.Answers.{refusalNumber, receivedNumber}
+use Rattle.text.specs.Text.{ascii, each, hex, spaced}
+
+-- a word alone; a word and numbers; "A refused event prints its word, `refused` and the number."
+unfoldable pub wordLine : List ℕ → List ℕ
+wordLine word = word ++ ascii "\n"
+
+unfoldable pub numbersLine : List ℕ → List ℕ → List ℕ
+numbersLine word numbers = word ++ each spaced numbers ++ ascii "\n"
+
+abbrev pub refusedLine : List ℕ → Refusal → List ℕ
+refusedLine word why = numbersLine (word ++ ascii " refused") (refusalNumber why ∷ [])
+
+-- "The first line is `plan ok NODES TX RX` or `plan refused NO RECORD`"
+unfoldable pub planLine : Opened → List ℕ
+planLine (opened.Open nodes tx rx) = numbersLine (ascii "plan ok") (nodes ∷ tx ∷ rx ∷ [])
+planLine (opened.Refused why at) = numbersLine (ascii "plan refused") (refusalNumber why ∷ at ∷ [])
+
+-- "`rx ANSWER`"
+unfoldable pub rxLine : Received → List ℕ
+rxLine received.Accepted = numbersLine (ascii "rx") (receivedNumber received.Accepted ∷ [])
+rxLine received.NoRow = numbersLine (ascii "rx") (receivedNumber received.NoRow ∷ [])
+rxLine received.TooShort = numbersLine (ascii "rx") (receivedNumber received.TooShort ∷ [])
+rxLine (received.Refused why) = refusedLine (ascii "rx") why
+
+-- "`tick` and the report bytes in decimal, single spaces between"
+unfoldable pub tickLine : Ticked → List ℕ → List ℕ
+tickLine ticked.Done report = numbersLine (ascii "tick") report
+tickLine (ticked.Refused why) report = refusedLine (ascii "tick") why
+
+-- "payload lower-case hex, `-` for size 0"
+unfoldable pub payloadText : ℕ → List ℕ → List ℕ
+payloadText size payload = pick (eqb size 0) (ascii "-") (hex payload)
+
+-- "`take none` or `take TX ID SIZE PAYLOAD WAITING`"
+unfoldable pub frameLine : ℕ → ℕ → ℕ → ℕ → List ℕ → List ℕ
+frameLine tx id size waiting payload =
+    ascii "take" ++ each spaced (tx ∷ id ∷ size ∷ []) ++ ascii " " ++ payloadText size payload ++ spaced waiting ++ ascii "\n"
+
+unfoldable pub takeLine : Taken → List ℕ → List ℕ
+takeLine taken.Nothing payload = wordLine (ascii "take none")
+takeLine (taken.Frame tx id size waiting) payload = frameLine (tx .0) id size waiting payload
+takeLine (taken.Refused why) payload = refusedLine (ascii "take") why
+
+-- "A cut or unknown event record prints `input bad`"
+unfoldable pub badLine : List ℕ
+badLine = wordLine (ascii "input bad")

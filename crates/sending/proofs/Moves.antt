@@ -1,0 +1,104 @@
+-- A change that only adds to the queues, at their ends: what it leaves of an area that holds a plan. Such changes follow one another, and one that
+-- leaves the queues, their rings and the marks of those that wait is one. Assumes nothing.
+use mathlib.Core.Path.{_≡_, refl, sym, _∙_}
+use mathlib.Core.List.{List, [], _++_, append-nil, append-assoc}
+use Prim.Native.Nat.{ℕ, _+_, _≤_, _<_}
+use native.Mathlib.Omega.{arith}
+use lib.ListN.{length-append, List·getD-append}
+use Rattle.base.specs.Numbers.{byteAt}
+use Rattle.area.specs.Layout.{queue, waits}
+use Rattle.area.specs.Queue.{endsOf, queueOf}
+use Rattle.area.proofs.Frame.{Same, same-two, same-fewer}
+use Rattle.area.proofs.Kept.{Kept, kept-refl, kept-then}
+use Rattle.area.proofs.QueueLaws.{queue-same}
+use Rattle.sending.specs.Queues.{waiter, Queues, Stands}
+use Rattle.sending.specs.Statements.{Grows}
+use Rattle.sending.proofs.Holding.{Holding, holding-kept}
+use Rattle.sending.proofs.Lines.{queue-stays}
+
+-- the area holds a good plan, and its queues are as they should be
+pub record Ready (plan a : List ℕ) : Type 0 where
+  pub holding : Holding plan a
+  pub queues : Queues plan a
+
+-- invariant and growth in one, so that each step is proved once
+pub record Moves (plan a b : List ℕ) : Type 0 where
+  pub kept : Kept a b
+  pub queues : Queues plan b
+  pub grows : (n : ℕ) → n < 16 → Grows a b n
+
+-- ---- growth
+
+module _ {a : List ℕ} {n : ℕ} where
+  pub grows-same : {b : List ℕ} → queueOf b n ≡ queueOf a n → Grows a b n
+  grows-same e = record { new = []; then = e ∙ sym (append-nil (queueOf a n)) }
+
+  grows-then : {b c : List ℕ} → Grows a b n → Grows b c n → Grows a c n
+  grows-then g h = record { new = g .new ++ h .new; then = rw (h .then, g .then, append-assoc) }
+
+  -- who stands in a queue stays there
+  pub grows-stands : {b : List ℕ} {t : ℕ} → Grows a b n → Stands a n t → Stands b n t
+  grows-stands g s =
+      record {
+        place = s .place;
+        within = rw (g .then, length-append) (omega (arith, s .within));
+        there = rw (g .then, List·getD-append (queueOf a n) (g .new) 0 (s .place) (s .within)) (s .there);
+      }
+
+-- ---- one after the other
+
+module _ {plan a : List ℕ} where
+  pub moves-refl : Ready plan a → Moves plan a a
+  moves-refl r = record { kept = kept-refl a; queues = r .queues; grows = λ n h. grows-same refl }
+
+  moved : {b : List ℕ} → Ready plan a → Moves plan a b → Ready plan b
+  moved r m = record { holding = holding-kept (m .kept) (r .holding); queues = m .queues }
+
+  pub moves-then : {b c : List ℕ} → Ready plan a → Moves plan a b → (Ready plan b → Moves plan b c) → Moves plan a c
+  moves-then r m next =
+      let k = next (moved r m) in
+      record { kept = kept-then (m .kept) (k .kept); queues = k .queues; grows = λ n h. grows-then (m .grows n h) (k .grows n h) }
+
+-- ---- changes beside the queues
+
+-- all places but the timers and long counters, the payloads and masks, and the counter
+pub record Resting (j : ℕ) : Type 0 where
+  pub timers : 208 ≤ j → j < 1488 → ⊥
+  pub payloads : 6384 ≤ j → j < 8960 → ⊥
+  pub count : j ≡ 2 → ⊥
+
+abbrev pub Rests : List ℕ → List ℕ → Type 0
+Rests a b = Same Resting a b
+
+-- where the oldest entry is stands in the records of the queues
+pub first-same :
+    {P : ℕ → Type 0} {a b : List ℕ} → ((j : ℕ) → 80 ≤ j → j < 208 → P j) → Same P a b → (n : ℕ) → n < 16 → endsOf b n .first ≡ endsOf a n .first
+unfolding endsOf
+first-same records s n h = same-two s (queue n + 4) (records _ (omega arith) (omega arith)) (records _ (omega arith) (omega arith))
+
+module _ {a b : List ℕ} (s : Rests a b) where
+  mark-rests : (t : ℕ) → t < 256 → byteAt b (waits t) ≡ byteAt a (waits t)
+  mark-rests t h = s .at (waits t) (omega arith)
+
+  kept-rests : Kept a b
+  kept-rests = same-fewer (λ j p. record { timers = λ x y. p .low x (omega arith); payloads = λ x y. p .high (omega arith) y; count = p .count }) s
+
+  pub moves-rests : {plan : List ℕ} → Ready plan a → Moves plan a b
+  moves-rests r =
+      let holding = r .holding in
+      let queues = r .queues in
+      let later = holding-kept kept-rests holding in
+      let same = queue-same {P = Resting} (λ j l m. omega arith) (λ j l m. omega arith) s in
+      let grows : (n : ℕ) → n < 16 → Grows a b n = λ n h. grows-same (same n h) in
+      record {
+        kept = kept-rests;
+        queues = record {
+          queue = λ n h.
+              let x = queues .queue n h in
+              queue-stays kept-rests later h (first-same (λ j l m. omega arith) s n h) (same n h)
+              (λ i l. rw (mark-rests (waiter a n i) (omega (arith, x .frame i l, holding .fit .tx))) (x .marked i l)) x;
+          stands = λ t h d.
+              grows-stands (grows _ (holding .fit .node t h)) (queues .stands t h (rw (mark-rests t (omega (arith, holding .fit .tx))) at d));
+        };
+        grows = grows;
+      }

@@ -1,0 +1,120 @@
+-- A take: the oldest frame of a node leaves its queue and its mark is cleared; the other queues stay. Assumes nothing.
+use mathlib.Core.Path.{_≡_, refl, sym, ap, _∙_}
+use mathlib.Core.Logic.{_≢_}
+use mathlib.Core.List.{List, _∷_}
+use Prim.Native.Nat.{ℕ, zero, suc, _<_}
+use native.Mathlib.Nat.{pos-of-ne-zero}
+use native.Mathlib.Decide.{ℕ-discrete}
+use native.Mathlib.Omega.{arith}
+use borrow.Author.Tests.{ltb-true}
+use lib.Dec.{ltb}
+use lib.ListN.{length, getD}
+use lib.Seq.{getD-set-same}
+use Rattle.base.specs.Numbers.{byteAt}
+use Rattle.base.proofs.Picks.{both, cases, by-eqb}
+use Rattle.plan.specs.Rows.{txOf}
+use Rattle.area.specs.Layout.{waits, nodeCount}
+use Rattle.area.specs.Queue.{endsOf, removed, setEnds, oldest, dequeued, queueOf}
+use Rattle.area.proofs.Frame.{same-refl, same-setEnds, same-dequeued}
+use Rattle.area.proofs.Kept.{Kept, kept-dequeued}
+use Rattle.area.proofs.QueueLaws.{ends-dequeued-other, queue-dequeued-other, queue-dequeued, sound-dequeued}
+use Rattle.taking.specs.Taken.{oldestArea, takenArea}
+use Rattle.tables.specs.Reads.{txAt}
+use Rattle.sending.specs.Queues.{waiter, Queue, Queues, Stands}
+use Rattle.sending.proofs.Holding.{Holding, holding-kept}
+use Rattle.sending.proofs.Lines.{Line, line-of, line-marked, line-left, queue-of, queue-stays}
+use Rattle.sending.proofs.Moves.{Ready, grows-same, grows-stands}
+
+module _ {plan a : List ℕ} (r : Ready plan a) (n : ℕ) (h : n < 16) (some : 0 < endsOf a n .waiting) where
+  open Ready r using (holding, queues)
+
+  -- the oldest, and the area without it
+  abbrev t : ℕ
+  t = oldest a n
+
+  abbrev b : List ℕ
+  b = dequeued a n
+
+  pub leaves : queueOf a n ≡ t ∷ queueOf b n
+  leaves = queue-dequeued a n h (holding .size) (queues .queue n h .sound) some
+
+  line : Line plan a n (t ∷ queueOf b n)
+  line = rw leaves at (line-of (queues .queue n h))
+
+  pub frame : t < length (txOf plan)
+  frame = line .frame 0 (omega arith)
+
+  -- ---- the marks
+
+  pub cleared : byteAt b (waits t) ≡ 0
+  unfolding dequeued
+  cleared =
+      let s = same-setEnds {P = λ j. ⊥} n (removed (endsOf a n)) (λ j x y p. p) (same-refl a) .len in
+      getD-set-same (setEnds a n (removed (endsOf a n))) (waits t) 0 0 (omega (arith, frame, holding .fit .tx, holding .size))
+
+  mark-other : (u : ℕ) → u ≢ t → byteAt b (waits u) ≡ byteAt a (waits u)
+  mark-other u d =
+      same-dequeued {P = λ j. j ≡ waits u} a n (λ j x y p. omega arith) (λ p. d (omega arith)) .at (waits u) refl
+
+  -- ---- the queues
+
+  kept : Kept a b
+  kept = kept-dequeued a n h
+
+  later : Holding plan b
+  later = holding-kept kept holding
+
+  -- a frame of another node is another frame
+  marks : (m : ℕ) (l : m < 16) → m ≢ n → (i : ℕ) → i < length (queueOf a m) → byteAt b (waits (waiter a m i)) ≢ 0
+  marks m l d i k =
+      let x = queues .queue m l in
+      rw (mark-other (waiter a m i) (λ e. d (sym (x .node i k) ∙ ap (λ u. txAt plan u .node) e ∙ line .node 0 (omega arith)))) (x .marked i k)
+
+  queue : (m : ℕ) → m < 16 → Queue plan b m
+  queue m l = go (ℕ-discrete m n)
+    where
+      go : Dec (m ≡ n) → Queue plan b m
+      go (yes e) =
+          let rest = line-left t line in
+          rw e
+          (queue-of later h (sound-dequeued a n h (holding .size) (queues .queue n h .sound) .first)
+          (line-marked rest
+          (λ i k. rw (mark-other (waiter b n i) (λ e. line .once 0 (suc i) (omega arith) (omega arith) (sym e))) (rest .marked i k))))
+      go (no d) =
+          queue-stays kept later l (ap (λ e. e .first) (ends-dequeued-other a n h m l d)) (queue-dequeued-other a n h m l d) (marks m l d)
+          (queues .queue m l)
+
+  -- a place behind the oldest is one less
+  behind : (u i : ℕ) → u ≢ t → i < length (t ∷ queueOf b n) → getD (t ∷ queueOf b n) i 0 ≡ u → Stands b n u
+  behind u zero d l e = absurd (d (sym e))
+  behind u (suc i) d l e = record { place = i; within = omega arith; there = e }
+
+  stands : (u : ℕ) → u < length (txOf plan) → byteAt b (waits u) ≢ 0 → Stands b (txAt plan u .node) u
+  stands u l m = go (ℕ-discrete (txAt plan u .node) n)
+    where
+      d : u ≢ t
+      d e = m (ap (λ x. byteAt b (waits x)) e ∙ cleared)
+
+      s : Stands a (txAt plan u .node) u
+      s = queues .stands u l (rw (mark-other u d) at m)
+
+      go : Dec (txAt plan u .node ≡ n) → Stands b (txAt plan u .node) u
+      go (yes e) = rw e (behind u (s .place) d (rw (e, leaves) at (s .within)) (rw (e, leaves) at (s .there)))
+      go (no e) = grows-stands (grows-same (queue-dequeued-other a n h (txAt plan u .node) (holding .fit .node u l) e)) s
+
+  queues-dequeued : Queues plan (dequeued a n)
+  queues-dequeued = record { queue = queue; stands = stands }
+
+-- ---- the call
+
+pub queues-taken : {plan a : List ℕ} (n : ℕ) → Ready plan a → Queues plan (takenArea a n)
+unfolding takenArea oldestArea
+queues-taken {plan} {a} n r =
+    let stay = r .queues in
+    both (Queues plan) _ _ _
+    (cases (Queues plan) (ltb n (nodeCount a)) _ _
+    (λ e.
+    let l = ltb-true n (nodeCount a) e in
+    by-eqb (Queues plan) (endsOf a n .waiting) 0 _ _ (λ z. stay) (λ d. queues-dequeued r n (omega arith) (pos-of-ne-zero d)))
+    (λ e. stay))
+    stay

@@ -1,0 +1,17 @@
+pub mod RxSide
+pub mod RowWalk
+pub mod RowFacts
+pub mod RxPut
+pub mod RxRecords
+pub mod NodeSpans
+pub mod NodeRows
+pub mod RxOpened
+pub mod Lookup
+pub mod Stored
+pub mod Spared
+pub mod TxLeft
+pub mod TxRecords
+pub mod RingLaws
+pub mod HeadOrder
+pub mod TxOpened
+pub mod Opened

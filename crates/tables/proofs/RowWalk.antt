@@ -1,0 +1,153 @@
+-- An induction over an opening's Rx frames: what each of them adds to, and no other record changes, holds of the opened area. Assumes nothing.
+use mathlib.Core.Path.{_≡_, refl, sym, ap, _∙_}
+use mathlib.Core.Logic.{dite}
+use mathlib.Core.List.{List, [], _∷_}
+use Prim.Native.Nat.{ℕ, suc, _+_, _<_, _≤_}
+use native.Mathlib.Nat.{lt-of-not-le}
+use native.Mathlib.Decide.{decLe}
+use native.Mathlib.Omega.{arith}
+use lib.ListN.{length, drop, length-drop}
+use lib.Seq.{drop-cons}
+use Rattle.base.specs.Numbers.{byteAt, twoAt}
+use Rattle.records.specs.declared.record.RxFrame.{RxFrame}
+use Rattle.records.specs.declared.record.Record.{Record}
+use Rattle.records.specs.declared.record.Record.the-variants.{Rx}
+use Rattle.records.specs.Records.{recordAt, sizeOf, recordsAt, records}
+use Rattle.records.proofs.RecordLaws.{records-end, records-step}
+use Rattle.plan.specs.Check.{setsOf}
+use Rattle.plan.specs.Rows.{rowOf, rowsFrom, rowsOf}
+use Rattle.area.proofs.Frame.{Same, same-two}
+use Rattle.opening.specs.Opened.{blank, nextRx, withRx, withRecord, withRecords, opened}
+use Rattle.opening.proofs.BlankLaws.{blank-length, blank-zero}
+use Rattle.opening.proofs.Counted.{counts}
+use Rattle.tables.specs.Reads.{noRow, rowAt}
+use Rattle.tables.proofs.RxSide.{rx-length, RxSide, leaves-last, Kind, frame, other, kind}
+
+-- Rx frame number k, met at a place of the plan when the area is a
+pub record Meets (plan : List ℕ) (k at : ℕ) (x : RxFrame) (a : List ℕ) : Type 0 where
+  pub here : at < length plan
+  pub reads : recordAt plan at ≡ Rx x
+  pub exists : k < length (rowsOf plan)
+  pub row : rowAt plan k ≡ rowOf k x (recordsAt plan (at + 11))
+  pub next : nextRx a ≡ k
+  pub size : 32768 ≤ length a
+
+-- the records from a place on are left, of which the first Rx frame has number k
+record Left (plan : List ℕ) (rs : List Record) (at k : ℕ) (a : List ℕ) : Type 0 where
+  reads : recordsAt plan at ≡ rs
+  rows : rowsFrom k rs ≡ drop k (rowsOf plan)
+  most : k ≤ length (rowsOf plan)
+  count : twoAt a 10 ≡ k
+  size : 32768 ≤ length a
+
+-- the record at a place is the first of those from there on
+module _ (plan : List ℕ) (at : ℕ) (r : Record) (rs : List Record) (is : recordsAt plan at ≡ r ∷ rs) where
+  before : at < length plan
+  before =
+      dite (decLe (length plan) at)
+      (λ l. let e = records-end plan at l in let z : _≡_ {A = ℕ} 0 1 = cc in absurd (omega arith))
+      lt-of-not-le
+
+  first : recordAt plan at ≡ r
+  first = let e = records-step plan at before in cc
+
+  rest : recordsAt plan (at + sizeOf r) ≡ rs
+  rest = let e = records-step plan at before in rw first at (let f : recordsAt plan (at + sizeOf (recordAt plan at)) ≡ rs = cc in f)
+
+-- ---- one record less
+
+module _ (plan : List ℕ) (rs : List Record) (at k : ℕ) (a : List ℕ) where
+  left-other :
+      (r : Record) (b : List ℕ) → rowsFrom k (r ∷ rs) ≡ rowsFrom k rs → Same RxSide a b → Left plan (r ∷ rs) at k a
+      → Left plan rs (at + sizeOf r) k b
+  left-other r b none s l =
+      record {
+        reads = rest plan at r rs (l .reads);
+        rows = sym none ∙ l .rows;
+        most = l .most;
+        count = same-two s 10 (omega arith) (omega arith) ∙ l .count;
+        size = omega (arith, s .len, l .size);
+      }
+
+  module _ (x : RxFrame) (few : length (rowsOf plan) ≤ 256) (l : Left plan (Rx x ∷ rs) at k a) where
+    more-rows : k < length (rowsOf plan)
+    unfolding rowsFrom
+    more-rows = omega (arith, length-drop k (rowsOf plan), ap length (l .rows))
+
+    here-rows : rowOf k x rs ∷ rowsFrom (suc k) rs ≡ rowAt plan k ∷ drop (suc k) (rowsOf plan)
+    unfolding rowsFrom
+    here-rows = l .rows ∙ drop-cons (rowsOf plan) k noRow more-rows
+
+    meets : Meets plan k at x a
+    unfolding sizeOf
+    meets =
+        let e = here-rows in
+        record {
+          here = before plan at (Rx x) rs (l .reads);
+          reads = first plan at (Rx x) rs (l .reads);
+          exists = more-rows;
+          row = rw (rest plan at (Rx x) rs (l .reads)) (cc);
+          next = rw (l .count) (omega (arith, more-rows));
+          size = l .size;
+        }
+
+    left-frame : Left plan rs (at + 11) (suc k) (withRx at x a)
+    unfolding sizeOf withRecords withRecord rowsFrom
+    left-frame =
+        let e = here-rows in
+        let c = counts at (Rx x ∷ []) a (omega (arith, l .size)) .rx 0 (omega (arith, l .count, more-rows)) in
+        record {
+          reads = rest plan at (Rx x) rs (l .reads);
+          rows = cc;
+          most = more-rows;
+          count = c ∙ omega (arith, l .count);
+          size = rw (rx-length at x a) (l .size);
+        }
+
+-- the counts and the tables of a blank area
+pub blank-two : (plan a : List ℕ) → 32768 ≤ length a → (j : ℕ) → 6 ≤ j → j < 8959 → twoAt (blank plan a) j ≡ 0
+blank-two plan a room j l h =
+    let byte : (i : ℕ) → 6 ≤ i → i < 8960 → byteAt (blank plan a) i ≡ 0 =
+    λ i lo hi. blank-zero plan a room i hi (omega arith) (omega arith) (omega arith) (omega arith) in
+    omega (arith, byte j l (omega arith), byte (j + 1) (omega arith) (omega arith))
+
+-- ---- all of them
+
+-- what holds after a record, with the number that the next Rx frame gets
+record After (plan : List ℕ) (Q : ℕ → List ℕ → Type 0) (rs : List Record) (at : ℕ) (a : List ℕ) : Type 0 where
+  number : ℕ
+  left : Left plan rs at number a
+  holds : Q number a
+
+module _
+    (plan : List ℕ) (few : length (rowsOf plan) ≤ 256) (Q : ℕ → List ℕ → Type 0)
+    (kept : (k : ℕ) (a b : List ℕ) → k ≤ length (rowsOf plan) → Same RxSide a b → Q k a → Q k b)
+    (more : (k at : ℕ) (x : RxFrame) (a : List ℕ) → Meets plan k at x a → Q k a → Q (suc k) (withRx at x a))
+  where
+    step :
+        (r : Record) (rs : List Record) (at k : ℕ) (a : List ℕ) → Left plan (r ∷ rs) at k a → Q k a → Kind at r
+        → After plan Q rs (at + sizeOf r) (withRecord at r a)
+    unfolding withRecord sizeOf
+    step r rs at k a l q (frame x e) =
+        let m : Left plan (Rx x ∷ rs) at k a = rw e at l in
+        rw e (record { number = suc k; left = left-frame plan rs at k a x few m; holds = more k at x a (meets plan rs at k a x few m) q })
+    step r rs at k a l q (other none s) =
+        record { number = k; left = left-other plan rs at k a r _ (none k rs) (s a) l; holds = kept k a _ (l .most) (s a) q }
+
+    walk : (rs : List Record) (at k : ℕ) (a : List ℕ) → Left plan rs at k a → Q k a → Q (length (rowsOf plan)) (withRecords at rs a)
+    unfolding withRecords rowsFrom
+    walk [] at k a l q = let e : k ≡ length (rowsOf plan) = omega (arith, length-drop k (rowsOf plan), ap length (l .rows), l .most) in rw e at q
+    walk (r ∷ rs) at k a l q = let s = step r rs at k a l q (kind at r) in walk rs _ (s .number) _ (s .left) (s .holds)
+
+    pub opened-walk : (a : List ℕ) → 32768 ≤ length a → Q 0 (blank plan a) → Q (length (rowsOf plan)) (opened plan a)
+    unfolding opened rowsOf records
+    opened-walk a room q =
+        let l : Left plan (recordsAt plan 0) 0 0 (blank plan a) =
+        record {
+          reads = refl;
+          rows = refl;
+          most = omega arith;
+          count = blank-two plan a room 10 (omega arith) (omega arith);
+          size = omega (arith, blank-length plan a);
+        } in
+        kept _ _ _ (omega arith) (leaves-last (setsOf plan) _) (walk (recordsAt plan 0) 0 0 (blank plan a) l q)

@@ -1,0 +1,143 @@
+-- What the parts of an opening leave, over any P that names no place that they write; and the places that only Rx frames write. Assumes nothing.
+use mathlib.Core.Path.{_≡_, refl}
+use mathlib.Core.List.{List, _∷_}
+use Prim.Native.Nat.{ℕ, zero, suc, _+_, _%_, _<_, _≤_}
+use native.Mathlib.Omega.{arith}
+use lib.ListN.{length, set}
+use Rattle.base.specs.Numbers.{setTwo}
+use Rattle.records.specs.declared.record.Eight.{Eight}
+use Rattle.records.specs.declared.record.TxFrame.{TxFrame}
+use Rattle.records.specs.declared.record.RxFrame.{RxFrame}
+use Rattle.records.specs.declared.record.Record.{Record}
+use Rattle.records.specs.declared.record.Record.the-variants.{Head, Node, Tx, Rx, Signal, Destination, BadKind, Cut, End}
+use Rattle.plan.specs.Rows.{rowsFrom}
+use Rattle.area.specs.Layout.{node, rxTimer, long, row, payload, rxMask}
+use Rattle.area.proofs.Frame.{Same, same-refl, same-then, same-set, same-setTwo, same-pick}
+use Rattle.opening.specs.Opened.{withTxTimer, withPayload, withFrame, withTx, withRecord, withRings, withFullness}
+use Rattle.opening.specs.Opened.{nextRx, withRxTimer, withRow, withNodeRow, withRx}
+
+-- P names no place from low to before high
+abbrev pub Clear : (ℕ → Type 0) → ℕ → ℕ → Type 0
+Clear P low high = (j : ℕ) → low ≤ j → j < high → P j → ⊥
+
+module _ {P : ℕ → Type 0} where
+  pub put : {a b : List ℕ} {low high : ℕ} → Clear P low high → (i v : ℕ) → low ≤ i → i < high → Same P a b → Same P a (set b i v)
+  put clear i v l h s = same-set i v (clear i l h) s
+
+  pub put-two : {a b : List ℕ} {low high : ℕ} → Clear P low high → (i v : ℕ) → low ≤ i → i + 1 < high → Same P a b → Same P a (setTwo b i v)
+  put-two clear i v l h s = same-setTwo i v (clear i l (omega arith)) (clear (i + 1) (omega arith) h) s
+
+  -- ---- an Rx frame: its timer, its row, its node
+
+  pub leaves-rx-timer :
+      (r : ℕ) (x : RxFrame) (a : List ℕ) → Clear P (rxTimer r) (rxTimer r + 2) → Clear P (long r) (long r + 1) → Clear P (rxMask r) (rxMask r + 1)
+      → Same P a (withRxTimer r x a)
+  unfolding withRxTimer
+  leaves-rx-timer r x a timer count mask =
+      put count _ _ (omega arith) (omega arith) (put mask _ _ (omega arith) (omega arith)
+      (put timer _ _ (omega arith) (omega arith) (put timer _ _ (omega arith) (omega arith) (same-refl a))))
+
+  pub leaves-row : (r at : ℕ) (x : RxFrame) (a : List ℕ) → Clear P (row r) (row r + 6) → Same P a (withRow r at x a)
+  unfolding withRow
+  leaves-row r at x a clear =
+      put-two clear _ _ (omega arith) (omega arith)
+      (put-two clear _ _ (omega arith) (omega arith) (put-two clear _ _ (omega arith) (omega arith) (same-refl a)))
+
+  pub leaves-node-row : (n r : ℕ) (a : List ℕ) → Clear P (node n) (node n + 4) → Same P a (withNodeRow n r a)
+  unfolding withNodeRow
+  leaves-node-row n r a clear =
+      put-two clear _ _ (omega arith) (omega arith)
+      (same-pick _ _ _ (put-two clear _ _ (omega arith) (omega arith) (same-refl a)) (same-refl a))
+
+-- P names no place that Rx frame r of node n writes
+pub record RxClear (P : ℕ → Type 0) (r n : ℕ) : Type 0 where
+  pub count : Clear P 10 12
+  pub node : Clear P (node n) (node n + 4)
+  pub timer : Clear P (rxTimer r) (rxTimer r + 2)
+  pub long : Clear P (long r) (long r + 1)
+  pub row : Clear P (row r) (row r + 6)
+  pub mask : Clear P (rxMask r) (rxMask r + 1)
+
+pub leaves-rx : {P : ℕ → Type 0} (at : ℕ) (x : RxFrame) (a : List ℕ) → RxClear P (nextRx a) (x .node % 16) → Same P a (withRx at x a)
+unfolding withRx
+leaves-rx at x a c =
+    put-two (c .count) _ _ (omega arith) (omega arith)
+    (same-then (leaves-rx-timer _ x a (c .timer) (c .long) (c .mask))
+    (same-then (leaves-row _ at x _ (c .row)) (leaves-node-row _ _ _ (c .node))))
+
+pub rx-length : (at : ℕ) (x : RxFrame) (a : List ℕ) → length (withRx at x a) ≡ length a
+rx-length at x a = leaves-rx {P = λ j. ⊥} at x a (omega arith) .len
+
+-- ---- the places that only Rx frames write, by what they are not: header, queues and Tx timers, fullness and Tx places, payloads and Tx masks
+
+pub record RxSide (j : ℕ) : Type 0 where
+  pub header : 10 ≤ j
+  pub low : 80 ≤ j → 720 ≤ j
+  pub middle : 2000 ≤ j → 3024 ≤ j
+  pub high : 6384 ≤ j → 8688 ≤ j
+
+header-clear : Clear RxSide 0 10
+header-clear j l h p = omega (arith, p .header)
+
+low-clear : Clear RxSide 80 720
+low-clear j l h p = omega (arith, p .low l)
+
+middle-clear : Clear RxSide 2000 3024
+middle-clear j l h p = omega (arith, p .middle l)
+
+high-clear : Clear RxSide 6384 8688
+high-clear j l h p = omega (arith, p .high l)
+
+leaves-tx-timer : (t : ℕ) (x : TxFrame) (a : List ℕ) → t < 256 → Same RxSide a (withTxTimer t x a)
+unfolding withTxTimer
+leaves-tx-timer t x a h =
+    put high-clear _ _ (omega arith) (omega arith)
+    (put low-clear _ _ (omega arith) (omega arith) (put low-clear _ _ (omega arith) (omega arith) (same-refl a)))
+
+in-payload : {a b : List ℕ} (t i v : ℕ) → t < 256 → i < 8 → Same RxSide a b → Same RxSide a (set b (payload t + i) v)
+in-payload t i v h l s = put high-clear _ _ (omega arith) (omega arith) s
+
+leaves-payload : (t : ℕ) (b : Eight) (a : List ℕ) → t < 256 → Same RxSide a (withPayload t b a)
+unfolding withPayload
+leaves-payload t b a h =
+    in-payload t 7 _ h (omega arith) (in-payload t 6 _ h (omega arith) (in-payload t 5 _ h (omega arith) (in-payload t 4 _ h (omega arith)
+    (in-payload t 3 _ h (omega arith) (in-payload t 2 _ h (omega arith) (in-payload t 1 _ h (omega arith)
+    (put high-clear _ _ (omega arith) (omega arith) (same-refl a))))))))
+
+leaves-tx : (at : ℕ) (x : TxFrame) (a : List ℕ) → Same RxSide a (withTx at x a)
+unfolding withTx withFrame
+leaves-tx at x a =
+    put-two header-clear _ _ (omega arith) (omega arith) (put-two low-clear _ _ (omega arith) (omega arith)
+    (same-then (put-two middle-clear _ _ (omega arith) (omega arith) (same-refl a))
+    (same-then (leaves-tx-timer _ x _ (omega arith)) (leaves-payload _ (x .payload) _ (omega arith)))))
+
+leaves-rings : (n : ℕ) (a : List ℕ) → n ≤ 16 → Same RxSide a (withRings n a)
+unfolding withRings
+leaves-rings zero a h = same-refl a
+leaves-rings (suc n) a h = put-two low-clear _ _ (omega arith) (omega arith) (leaves-rings n a (omega arith))
+
+leaves-fullness : (sets : List ℕ) (n : ℕ) (a : List ℕ) → n ≤ 256 → Same RxSide a (withFullness sets n a)
+unfolding withFullness
+leaves-fullness sets zero a h = same-refl a
+leaves-fullness sets (suc n) a h = put-two middle-clear _ _ (omega arith) (omega arith) (leaves-fullness sets n a (omega arith))
+
+pub leaves-last : (sets a : List ℕ) → Same RxSide a (withFullness sets 256 (withRings 16 a))
+leaves-last sets a = same-then (leaves-rings 16 a (omega arith)) (leaves-fullness sets 256 _ (omega arith))
+
+-- ---- a record is an Rx frame, or it makes no row and leaves these places
+
+pub data Kind (at : ℕ) (r : Record) : Type 0 where
+  frame : (x : RxFrame) → r ≡ Rx x → Kind at r
+  other : ((n : ℕ) (rs : List Record) → rowsFrom n (r ∷ rs) ≡ rowsFrom n rs) → ((a : List ℕ) → Same RxSide a (withRecord at r a)) → Kind at r
+
+pub kind : (at : ℕ) (r : Record) → Kind at r
+unfolding rowsFrom withRecord
+kind at (Rx x) = frame x refl
+kind at (Head order) = other (λ n rs. refl) (λ a. put header-clear 3 order (omega arith) (omega arith) (same-refl a))
+kind at (Node type) = other (λ n rs. refl) (λ a. put header-clear 6 _ (omega arith) (omega arith) (same-refl a))
+kind at (Tx x) = other (λ n rs. refl) (leaves-tx at x)
+kind at (Signal p s) = other (λ n rs. refl) same-refl
+kind at (Destination t q) = other (λ n rs. refl) same-refl
+kind at BadKind = other (λ n rs. refl) same-refl
+kind at (Cut k) = other (λ n rs. refl) same-refl
+kind at End = other (λ n rs. refl) same-refl

@@ -1,0 +1,150 @@
+-- What the parts of an opening leave, over any set P of places that a part does not write; finer than `opening` has it. Assumes nothing.
+use mathlib.Core.Path.{_≡_, refl}
+use mathlib.Core.List.{List, [], _∷_}
+use Prim.Native.Nat.{ℕ, zero, suc, _+_, _%_, _<_, _≤_}
+use native.Mathlib.Nat.{add-zero}
+use native.Mathlib.Omega.{arith}
+use lib.ListN.{length, set}
+use Rattle.base.specs.Numbers.{setTwo}
+use Rattle.clock.specs.Counter.{maskOf}
+use Rattle.records.specs.declared.record.Eight.{Eight}
+use Rattle.records.specs.declared.record.TxFrame.{TxFrame}
+use Rattle.records.specs.declared.record.RxFrame.{RxFrame}
+use Rattle.records.specs.declared.record.Record.{Record}
+use Rattle.records.specs.declared.record.Record.the-variants.{Head, Node, Tx, Rx, Signal, Destination, BadKind, Cut, End}
+use Rattle.records.specs.Records.{sizeOf}
+use Rattle.plan.specs.Rows.{txFrames}
+use Rattle.area.specs.Layout.{queue, txTimer, txPlace, payload, txMask}
+use Rattle.area.proofs.Frame.{Same, same-refl, same-then, same-set, same-pick}
+use Rattle.opening.specs.Opened.{nextTx, withTxTimer, withPayload, withFrame, withTx, withRxTimer, withRow, withNodeRow, withRx, withRecord, withRings, withFullness}
+use Rattle.tables.specs.Reads.{eightBytes}
+use Rattle.tables.proofs.Stored.{None, put, put-two, stored, same-stored}
+
+-- ---- the parts of a Tx frame of number t
+
+-- P names none of its own places
+pub record NoTx (P : ℕ → Type 0) (t : ℕ) : Type 0 where
+  pub timer : None P (txTimer t) (txTimer t + 2)
+  pub place : None P (txPlace t) (txPlace t + 2)
+  pub payload : None P (payload t) (payload t + 8)
+  pub mask : P (txMask t) → ⊥
+
+pub payload-stored : (t : ℕ) (b : Eight) (a : List ℕ) → withPayload t b a ≡ stored a (payload t) 0 (eightBytes b)
+unfolding withPayload stored
+payload-stored t b a = rw (add-zero (payload t))
+
+pub timer-stored :
+    (t : ℕ) (x : TxFrame) (a : List ℕ)
+    → withTxTimer t x a ≡ set (stored a (txTimer t) 0 (x .reload ∷ x .initial ∷ [])) (txMask t) (maskOf (x .prescaler))
+unfolding withTxTimer stored
+timer-stored t x a = rw (add-zero (txTimer t))
+
+module _ {P : ℕ → Type 0} where
+  pub same-payload : (t : ℕ) (b : Eight) (a : List ℕ) → None P (payload t) (payload t + 8) → Same P a (withPayload t b a)
+  same-payload t b a none =
+      rw (payload-stored t b a) (same-stored a (payload t) 0 (eightBytes b) (λ j low high. none j (omega arith) (omega arith)))
+
+  pub same-timer : (t : ℕ) (x : TxFrame) (a : List ℕ) → None P (txTimer t) (txTimer t + 2) → (P (txMask t) → ⊥) → Same P a (withTxTimer t x a)
+  same-timer t x a none mask =
+      rw (timer-stored t x a)
+      (same-set _ _ mask (same-stored a (txTimer t) 0 (x .reload ∷ x .initial ∷ []) (λ j low high. none j (omega arith) (omega arith))))
+
+  pub same-frame : (n : ℕ) (a : List ℕ) → None P (queue n + 2) (queue n + 4) → Same P a (withFrame n a)
+  unfolding withFrame
+  same-frame n a none = put-two none _ _ (omega arith) (omega arith) (same-refl a)
+
+  -- all that is stored of it, but for the counts
+  pub same-own :
+      (t at : ℕ) (x : TxFrame) (a : List ℕ) → NoTx P t → Same P a (withPayload t (x .payload) (withTxTimer t x (setTwo a (txPlace t) at)))
+  same-own t at x a f =
+      same-then (put-two (f .place) (txPlace t) at (omega arith) (omega arith) (same-refl a))
+      (same-then (same-timer t x _ (f .timer) (f .mask)) (same-payload t (x .payload) _ (f .payload)))
+
+  pub same-tx :
+      (at : ℕ) (x : TxFrame) (a : List ℕ) → NoTx P (nextTx a) → None P (queue (x .node % 16) + 2) (queue (x .node % 16) + 4) → None P 8 10
+      → Same P a (withTx at x a)
+  unfolding withTx
+  same-tx at x a own frames count =
+      put-two count 8 _ (omega arith) (omega arith) (same-then (same-own (nextTx a) at x a own) (same-frame (x .node % 16) _ frames))
+
+pub tx-length : (at : ℕ) (x : TxFrame) (a : List ℕ) → length (withTx at x a) ≡ length a
+tx-length at x a = same-tx {P = λ j. ⊥} at x a (omega arith) (omega arith) (omega arith) .len
+
+-- ---- the other records
+
+-- P names no place of the header, the nodes and the Rx frames
+pub record NoRx (P : ℕ → Type 0) : Type 0 where
+  pub low : None P 0 80
+  pub timers : None P 720 1488
+  pub rows : None P 3024 4560
+  pub masks : None P 8688 8944
+
+module _ {P : ℕ → Type 0} (f : NoRx P) where
+  same-rx-timer : (r : ℕ) (x : RxFrame) (a : List ℕ) → r < 256 → Same P a (withRxTimer r x a)
+  unfolding withRxTimer
+  same-rx-timer r x a h =
+      put (f .timers) _ _ (omega arith) (omega arith) (put (f .masks) _ _ (omega arith) (omega arith)
+      (put (f .timers) _ _ (omega arith) (omega arith) (put (f .timers) _ _ (omega arith) (omega arith) (same-refl a))))
+
+  same-row : (r at : ℕ) (x : RxFrame) (a : List ℕ) → r < 256 → Same P a (withRow r at x a)
+  unfolding withRow
+  same-row r at x a h =
+      put-two (f .rows) _ _ (omega arith) (omega arith) (put-two (f .rows) _ _ (omega arith) (omega arith)
+      (put-two (f .rows) _ _ (omega arith) (omega arith) (same-refl a)))
+
+  same-node-row : (n r : ℕ) (a : List ℕ) → n < 16 → Same P a (withNodeRow n r a)
+  unfolding withNodeRow
+  same-node-row n r a h =
+      put-two (f .low) _ _ (omega arith) (omega arith)
+      (same-pick _ _ _ (put-two (f .low) _ _ (omega arith) (omega arith) (same-refl a)) (same-refl a))
+
+  same-rx : (at : ℕ) (x : RxFrame) (a : List ℕ) → Same P a (withRx at x a)
+  unfolding withRx
+  same-rx at x a =
+      put-two (f .low) 10 _ (omega arith) (omega arith)
+      (same-then (same-rx-timer _ x a (omega arith)) (same-then (same-row _ at x _ (omega arith)) (same-node-row _ _ _ (omega arith))))
+
+-- a record that is no Tx frame: it leaves all places of the Tx frames
+pub record Other (r : Record) : Type 1 where
+  pub frames : (rs : List Record) → txFrames (r ∷ rs) ≡ txFrames rs
+  pub keeps : (P : ℕ → Type 0) → NoRx P → (at : ℕ) (a : List ℕ) → Same P a (withRecord at r a)
+
+-- so what is proved of the records from a place on goes by two cases
+pub along :
+    (Q : ℕ → List Record → List ℕ → Type 0) → ((at : ℕ) (a : List ℕ) → Q at [] a)
+    → ((at : ℕ) (x : TxFrame) (rs : List Record) (a : List ℕ) → Q (at + 17) rs (withTx at x a) → Q at (Tx x ∷ rs) a)
+    → ((at : ℕ) (r : Record) (rs : List Record) (a : List ℕ) → Other r → Q (at + sizeOf r) rs (withRecord at r a) → Q at (r ∷ rs) a)
+    → (at : ℕ) (rs : List Record) (a : List ℕ) → Q at rs a
+unfolding txFrames withRecord sizeOf
+along Q none tx other at [] a = none at a
+along Q none tx other at (r ∷ rs) a = step r (along Q none tx other _ rs (withRecord at r a))
+  where
+    by : (r : Record) → ((rs : List Record) → txFrames (r ∷ rs) ≡ txFrames rs)
+        → ((P : ℕ → Type 0) → NoRx P → (at : ℕ) (a : List ℕ) → Same P a (withRecord at r a))
+        → Q (at + sizeOf r) rs (withRecord at r a) → Q at (r ∷ rs) a
+    by r frames keeps = other at r rs a (record { frames = frames; keeps = keeps })
+
+    step : (r : Record) → Q (at + sizeOf r) rs (withRecord at r a) → Q at (r ∷ rs) a
+    step (Tx x) = tx at x rs a
+    step (Head o) = by (Head o) (λ rs. refl) (λ P f at a. put (f .low) 3 o (omega arith) (omega arith) (same-refl a))
+    step (Node type) = by (Node type) (λ rs. refl) (λ P f at a. put (f .low) 6 _ (omega arith) (omega arith) (same-refl a))
+    step (Rx x) = by (Rx x) (λ rs. refl) (λ P f at a. same-rx f at x a)
+    step (Signal p s) = by (Signal p s) (λ rs. refl) (λ P f at a. same-refl a)
+    step (Destination t q) = by (Destination t q) (λ rs. refl) (λ P f at a. same-refl a)
+    step BadKind = by BadKind (λ rs. refl) (λ P f at a. same-refl a)
+    step (Cut kind) = by (Cut kind) (λ rs. refl) (λ P f at a. same-refl a)
+    step End = by End (λ rs. refl) (λ P f at a. same-refl a)
+
+-- ---- the rings' starts, and the fullness
+
+module _ {P : ℕ → Type 0} where
+  pub same-rings : (n : ℕ) (a : List ℕ) → ((k : ℕ) → k < n → None P (queue k) (queue k + 2)) → Same P a (withRings n a)
+  unfolding withRings
+  same-rings zero a none = same-refl a
+  same-rings (suc n) a none =
+      put-two (none n (omega arith)) (queue n) _ (omega arith) (omega arith) (same-rings n a (λ k h. none k (omega arith)))
+
+  pub same-fullness : (sets : List ℕ) (n : ℕ) (a : List ℕ) → n ≤ 256 → None P 2000 2512 → Same P a (withFullness sets n a)
+  unfolding withFullness
+  same-fullness sets zero a h none = same-refl a
+  same-fullness sets (suc n) a h none = put-two none _ _ (omega arith) (omega arith) (same-fullness sets n a (omega arith) none)

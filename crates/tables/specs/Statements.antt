@@ -1,0 +1,34 @@
+-- What is proved of an opened area, and what every later call leaves.
+use mathlib.Core.Path.{_≡_}
+use mathlib.Core.List.{List}
+use Prim.Native.Nat.{ℕ, _≤_, _<_}
+use lib.ListN.{length}
+use Rattle.records.specs.declared.record.RxNumber.{RxNumber}
+use Rattle.plan.specs.declared.verdict.Verdict.the-variants.{Good}
+use Rattle.plan.specs.Check.{checkPlan}
+use Rattle.plan.specs.Rows.{rowsOf}
+use Rattle.opening.specs.Opened.{opened}
+use Rattle.reception.specs.declared.lookup.Found.the-variants.{At, Nothing}
+use Rattle.reception.specs.Lookup.{lookedUp}
+use Rattle.tables.specs.Reads.{rowAt, Reads, Begun}
+
+-- an area that a good plan opened
+abbrev pub OpenedReads : Type 0
+OpenedReads =
+    (plan a : List ℕ) (n t r : ℕ) → checkPlan plan ≡ Good n t r → 32768 ≤ length a → Reads plan (opened plan a) × Begun plan (opened plan a)
+
+-- the row of a node and an ID
+pub record Names (plan : List ℕ) (n i r : ℕ) : Type 0 where
+  pub exists : r < length (rowsOf plan)
+  pub node : rowAt plan r .frame .node ≡ n
+  pub id : rowAt plan r .frame .id ≡ i
+
+-- "Lookup searches that node's rows only": it finds the plan's Rx frame of that node and ID, no other node's, and nothing where there is none
+pub record Finds (plan a : List ℕ) (n id : ℕ) : Type 0 where
+  pub found : (x : RxNumber) → lookedUp a n id ≡ At x → Names plan n id (x .0)
+  pub finds : (r : ℕ) → Names plan n id r → lookedUp a n id ≡ At (record { 0 = r })
+  pub nothing : ((r : ℕ) → Names plan n id r → ⊥) → lookedUp a n id ≡ Nothing
+
+abbrev pub LookupFinds : Type 0
+LookupFinds =
+    (plan a : List ℕ) (n t r : ℕ) → checkPlan plan ≡ Good n t r → Reads plan a → (m id : ℕ) → m < 16 → Finds plan a m id

@@ -1,0 +1,15 @@
+pub mod PlanFacts
+pub mod Timed
+pub mod Steps
+pub mod Places
+pub mod Turns
+pub mod Takes
+pub mod Stands
+pub mod TxTurn
+pub mod RxTurn
+pub mod RxReceived
+pub mod TxReceived
+pub mod Stretch
+pub mod RxRules
+pub mod TxRules
+pub mod Rules

@@ -1,0 +1,3 @@
+#!/usr/bin/env bash
+# The prover refuses each wrong version in edits/.
+tools/edits

@@ -1,0 +1,121 @@
+"""include/gateway.h says what the Rattle source and the definitions say: each exported function with its arguments in order, their names,
+widths and constness, and every answer and refusal with its number and its words. At the end differences are planted, and each must be seen."""
+import re
+import sys
+
+NUMBERS = {'usize': 'size_t', 'u8': 'uint8_t', 'u16': 'uint16_t', 'u32': 'uint32_t', 'u64': 'uint64_t', 'bool': 'bool'}
+FILES = {
+    'source': 'crates/interface/src/lib.rt',
+    'header': 'include/gateway.h',
+    'reasons': 'crates/plan/specs/Refusals.antt',
+    'answers': 'crates/answers/specs/Answers.antt',
+    'layout': 'crates/area/specs/Layout.antt',
+    'tick': 'crates/ticking/specs/Tick.antt',
+    'page': 'docs/REFUSALS.md',
+}
+
+
+def squeezed(text):
+    """single spaces, and none at a star or a bracket: one way to write a type"""
+    return re.sub(r' ?([*\[\](),]) ?', r'\1', ' '.join(text.split()))
+
+
+def c_arguments(argument):
+    """what a Rattle argument is in C: a slice is a pointer and a length"""
+    name, kind = (part.strip() for part in argument.split(':'))
+    slice_of = re.fullmatch(r"&(mut )?\[(\w+)\]", kind)
+    if slice_of:
+        const = '' if slice_of.group(1) else 'const '
+        return [f'{const}{NUMBERS[slice_of.group(2)]}*{name}', f'size_t {name}_length']
+    return [f'{NUMBERS[kind]} {name}']
+
+
+def exported(source):
+    source = re.sub(r'//.*', '', source)
+    found = {}
+    for name, arguments, result in re.findall(r'#\[no_mangle\]\s*pub extern "C" fn (\w+)\(([^)]*)\)\s*->\s*(\w+)', source):
+        split = [a for a in re.split(r',\s*(?![^\[]*\])', arguments.strip()) if a.strip()]
+        found[name] = (NUMBERS[result], [c for a in split for c in c_arguments(a)])
+    if len(found) != source.count('#[no_mangle]'):
+        sys.exit(f'tests/header.py: {source.count("#[no_mangle]")} functions are exported, and {len(found)} were read')
+    return found
+
+
+def declared(header):
+    code = re.sub(r'/\*.*?\*/', '', header, flags=re.S)
+    found = {}
+    for result, name, arguments in re.findall(r'^([\w ]+?)\b(\w+)\(([^)]*)\);', code, flags=re.M):
+        found[name] = (result.strip(), [squeezed(a) for a in arguments.split(',')])
+    return found
+
+
+def upper(name):
+    return re.sub(r'(?<=.)([A-Z])', r'_\1', name).upper()
+
+
+def numbers_said(texts):
+    """the constants that the definitions ask for"""
+    said = {}
+    for name, number in re.findall(r'^numberOf (\w+) = (\d+)$', texts['reasons'], flags=re.M):
+        said['GATEWAY_REFUSED_' + upper(name)] = int(number)
+    for name, number in re.findall(r'^refusalNumber (\w+) = (\d+)$', texts['answers'], flags=re.M):
+        said['GATEWAY_REFUSED_' + upper(name)] = int(number)
+    for name, number in re.findall(r'^receivedNumber (\w+) = (\d+)$', texts['answers'], flags=re.M):
+        said['GATEWAY_' + upper(name)] = int(number)
+    said['GATEWAY_AREA_SIZE'] = int(re.search(r'^marked a = pick \(leb (\d+) ', texts['layout'], flags=re.M).group(1))
+    said['GATEWAY_REPORT_SIZE'] = int(re.search(r'^rxCount a = twoAt a 10 % (\d+)$', texts['layout'], flags=re.M).group(1)) - 1
+    timeouts = re.search(r'^expiredReport a r = pick \(.*\) (\d) (\d)$', texts['tick'], flags=re.M)
+    said['GATEWAY_LONG_TIMEOUT'], said['GATEWAY_SHORT_TIMEOUT'] = int(timeouts.group(1)), int(timeouts.group(2))
+    return said
+
+
+def differences(texts):
+    seen = []
+    ours, theirs = exported(texts['source']), declared(texts['header'])
+    for name in sorted(ours.keys() | theirs.keys()):
+        if ours.get(name) != theirs.get(name):
+            seen.append(f'{name}: the source exports {ours.get(name)}, the header declares {theirs.get(name)}')
+    said = numbers_said(texts)
+    defined = {n: int(v) for n, v in re.findall(r'^#define (GATEWAY_\w+) (\d+)$', texts['header'], flags=re.M)}
+    for name in sorted(said.keys() | defined.keys()):
+        if said.get(name) != defined.get(name):
+            seen.append(f'{name}: the definitions say {said.get(name)}, the header {defined.get(name)}')
+    words = {int(n): w for n, w in re.findall(r'^\| (\d+) \| ([^|]+?) \|', texts['page'], flags=re.M)}
+    beside = {int(n): w for w, n in re.findall(r'^/\* (.+) \*/\n#define GATEWAY_REFUSED_\w+ (\d+)$', texts['header'], flags=re.M)}
+    for number in range(1, 16):
+        if number not in words or words.get(number) != beside.get(number):
+            seen.append(f'refusal {number}: docs/REFUSALS.md says "{words.get(number)}", the header "{beside.get(number)}"')
+    return seen
+
+
+PLANTED = [
+    ('two arguments exchanged', 'header', 'size_t node, uint32_t id,', 'uint32_t id, size_t node,'),
+    ('two slices exchanged', 'header', 'uint8_t *area, size_t area_length, uint8_t *report, size_t report_length',
+     'uint8_t *report, size_t report_length, uint8_t *area, size_t area_length'),
+    ('an argument too few', 'header', 'size_t area_length, size_t node);', 'size_t area_length);'),
+    ('a length lost', 'header', 'const uint8_t *payload, size_t payload_length', 'const uint8_t *payload'),
+    ('another width', 'header', 'uint32_t id', 'uint16_t id'),
+    ('another width of an answer', 'header', 'uint64_t gateway_take', 'uint32_t gateway_take'),
+    ('a slice that may be written', 'header', 'gateway_fullness(const uint8_t *area', 'gateway_fullness(uint8_t *area'),
+    ('a function not declared', 'header', 'uint64_t gateway_tick(', 'uint64_t gateway_tock('),
+    ('another refusal number', 'header', 'GATEWAY_REFUSED_NO_NODE 12', 'GATEWAY_REFUSED_NO_NODE 15'),
+    ('another answer number', 'header', 'GATEWAY_NO_ROW 1', 'GATEWAY_NO_ROW 2'),
+    ('another report byte', 'header', 'GATEWAY_LONG_TIMEOUT 2', 'GATEWAY_LONG_TIMEOUT 3'),
+    ('another area size', 'header', 'GATEWAY_AREA_SIZE 32768', 'GATEWAY_AREA_SIZE 32767'),
+    ('other words', 'header', '/* no such Tx frame */', '/* no such Rx frame */'),
+    ('another width in the source', 'source', 'id: u32', 'id: u64'),
+    ('an argument more in the source', 'source', 'tx: usize)', 'tx: usize, rx: usize)'),
+    ('a slice that is written in the source', 'source', 'plan: &[u8]', 'plan: &mut [u8]'),
+    ('another number in the definitions', 'answers', 'refusalNumber NotOpen = 11', 'refusalNumber NotOpen = 12'),
+]
+
+texts = {what: open(path, encoding='utf-8').read() for what, path in FILES.items()}
+found = differences(texts)
+if found:
+    sys.exit('\n'.join(found))
+for what, file, old, new in PLANTED:
+    if texts[file].count(old) != 1:
+        sys.exit(f'tests/header.py: {what}: `{old}` stands {texts[file].count(old)} times in {FILES[file]}')
+    if not differences({**texts, file: texts[file].replace(old, new)}):
+        sys.exit(f'tests/header.py: {what}: planted, and not seen')
+print(f'header: {len(exported(texts["source"]))} functions, {len(numbers_said(texts))} numbers; {len(PLANTED)} planted differences seen')

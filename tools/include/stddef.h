@@ -1,0 +1,3 @@
+/* What a C compiler without its headers knows of sizes: for tools/run-c alone. */
+#pragma once
+typedef __SIZE_TYPE__ size_t;

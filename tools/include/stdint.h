@@ -1,0 +1,5 @@
+/* What a C compiler without its headers knows of widths: for tools/run-c alone. */
+#pragma once
+typedef __UINT8_TYPE__ uint8_t;
+typedef __UINT32_TYPE__ uint32_t;
+typedef __UINT64_TYPE__ uint64_t;

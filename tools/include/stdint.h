@@ -1,4 +1,4 @@
-/* What a C compiler without its headers knows of widths: for tools/run-c alone. */
+/* What a C compiler without its headers knows of widths: for tools/run-c and tools/speed alone. */
 #pragma once
 typedef __UINT8_TYPE__ uint8_t;
 typedef __UINT32_TYPE__ uint32_t;

@@ -13,10 +13,10 @@ use Rattle.plan.specs.declared.verdict.Verdict.the-variants.{Good, Refused}
 use Rattle.plan.specs.declared.progress.Counts.{Counts}
 use Rattle.plan.specs.declared.progress.Progress.{Progress}
 use Rattle.plan.specs.declared.progress.Next.{Next}
-use Rattle.plan.specs.declared.progress.Next.the-variants.{Go}
+use Rattle.plan.specs.declared.progress.Next.the-variants.{Go, Refuse}
 use Rattle.plan.specs.Progress.{counted, after}
 use Rattle.plan.specs.Tests.{followed}
-use Rattle.plan.proofs.CheckLaws.{Passed}
+use Rattle.plan.proofs.CheckLaws.{Passed, passed}
 use Rattle.plan.specs.Check.{need, placed, judged, sizesAfter, setsAfter, ended, verdictOf, checkOn}
 
 -- ---- every record passes all its tests
@@ -38,44 +38,15 @@ sizesFinally c sizes (r ∷ rs) = sizesFinally (counted c r) (sizesAfter (c .tx)
 -- ---- a good verdict says that all passed
 
 module _ (n t r : ℕ) where
-  need-good :
-      (test : Bool) (a : Reason) (k : ℕ) (next : Next) (rest : Verdict) → verdictOf (need test a k next) rest ≡ Good n t r
-      → (test ≡ true) × (verdictOf next rest ≡ Good n t r)
-  unfolding need pick verdictOf
-  need-good true a k next rest e = (refl, e)
-  need-good false a k next rest e = let z : _≡_ {A = ℕ} 0 1 = cc in absurd (omega arith)
-
   judged-good :
       (p : Progress) (sizes sets : List ℕ) (x : Record) (rest : Verdict) → verdictOf (judged p sizes sets x) rest ≡ Good n t r
       → Passed p sizes sets x × (rest ≡ Good n t r)
-  unfolding judged placed verdictOf
-  judged-good p sizes sets x rest e =
-      let a = need-good _ _ _ _ rest e in
-      let b = need-good _ _ _ _ rest (a .1) in
-      let c = need-good _ _ _ _ rest (b .1) in
-      let d = need-good _ _ _ _ rest (c .1) in
-      let f = need-good _ _ _ _ rest (d .1) in
-      let g = need-good _ _ _ _ rest (f .1) in
-      let h = need-good _ _ _ _ rest (g .1) in
-      let i = need-good _ _ _ _ rest (h .1) in
-      let j = need-good _ _ _ _ rest (i .1) in
-      let k = need-good _ _ _ _ rest (j .1) in
-      let l = need-good _ _ _ _ rest (k .1) in (
-        record {
-          follows = a .0;
-          known = b .0;
-          whole = c .0;
-          stands = d .0;
-          room = f .0;
-          range = g .0;
-          order = h .0;
-          inside = i .0;
-          free = j .0;
-          indicated = k .0;
-          indicator = l .0;
-        },
-        l .1,
-      )
+  unfolding verdictOf
+  judged-good p sizes sets x rest e = go (judged p sizes sets x) refl e
+    where
+      go : (y : Next) → judged p sizes sets x ≡ y → verdictOf y rest ≡ Good n t r → Passed p sizes sets x × (rest ≡ Good n t r)
+      go (Go q) is e = (passed p sizes sets x q is .0, e)
+      go (Refuse a k) is e = let z : _≡_ {A = ℕ} 0 1 = cc in absurd (omega arith)
 
   -- a choice that is good, where one side is a refusal
   pick-good : (b : Bool) (v : Verdict) (a : Reason) (k : ℕ) → pick b v (Refused a k) ≡ Good n t r → (b ≡ true) × (v ≡ Good n t r)

@@ -17,7 +17,7 @@ use Rattle.ticking.specs.Tick.{tickAnswer, tickedArea}
 use Rattle.ticking.proofs.TickLaws.{by-answer}
 use Rattle.tables.specs.Reads.{rowAt}
 use Rattle.history.specs.Calls.{Call, opening, reception, tick, take, fullness, after}
-use Rattle.timing.specs.Ticks.{ifDone, handlingOf, handlings, Leaves, AllLeave, Silent, AllSilent}
+use Rattle.timing.specs.Ticks.{ifDone, handlingOf, handlings, All, Leaves, Silent}
 use Rattle.timing.specs.Statements.{rxValue, RxTimerMoves, RxWaits, Reports, LongMoves}
 use Rattle.timing.proofs.Takes.{untaken}
 use Rattle.timing.proofs.Stands.{Stands}
@@ -92,11 +92,11 @@ module _ (plan : List ℕ) (good : GoodPlan plan) (r : ℕ) (h : r < length (row
   silent k a s (take n) l = tt
   silent k a s (fullness t) l = tt
 
-  pub rx-waits : {k : ℕ} {a : List ℕ} → Stands plan k a → (more : List Call) → AllLeave plan r more a
+  pub rx-waits : {k : ℕ} {a : List ℕ} → Stands plan k a → (more : List Call) → All (Leaves plan r) more a
       → handlings (rowAt plan r .frame .prescaler) k more a < rxValue a r → RxWaits plan k a r more
-  unfolding after Leaves AllLeave AllSilent timer
+  unfolding after Leaves All timer
   rx-waits {k} {a} s more all l =
       let x =
       stretch timer (Leaves plan r) (λ p b f. f) (λ m b t n id payload f. rx-other t n id payload r h f)
-      (AllLeave plan r) (AllSilent r) (λ c cs b f. f) (λ b. tt) (λ m b t c cs few rest. (silent m b t c few, rest)) more k a s all l in
+      (All (Leaves plan r)) (All (Silent r)) (λ c cs b f. f) (λ b. tt) (λ m b t c cs few rest. (silent m b t c few, rest)) more k a s all l in
       record { left = x .0; silent = x .1 }

@@ -14,7 +14,7 @@ use Rattle.ticking.specs.Tick.{tickAnswer, tickedArea}
 use Rattle.ticking.proofs.TickLaws.{by-answer}
 use Rattle.tables.specs.Reads.{txAt}
 use Rattle.history.specs.Calls.{Call, reception, after, afterAll}
-use Rattle.timing.specs.Ticks.{handlings, Spares, AllSpare}
+use Rattle.timing.specs.Ticks.{handlings, All, Spares}
 use Rattle.timing.specs.Statements.{txValue, TxTimerMoves}
 use Rattle.timing.proofs.Stands.{Stands}
 use Rattle.timing.proofs.Timed.{at-expiry, at-other}
@@ -34,8 +34,16 @@ module _ (plan : List ℕ) (good : GoodPlan plan) (t : ℕ) (h : t < length (txO
         ticks = λ s. tx-count s t h;
       }
 
+  -- a reception that does not schedule the frame: it waited already, or does not wait now
+  spared :
+      (k : ℕ) (a : List ℕ) → Stands plan k a → (n id : ℕ) (payload : List ℕ) → Spares t (reception n id payload) a
+      → txValue (after (reception n id payload) a) t ≡ txValue a t
+  unfolding after Spares
+  spared k a s n id payload f =
+      ⊎-elim (λ x. x .count) (λ x. absurd (omega (arith, x .after, f (x .before)))) (tx-received s t h n id payload .how)
+
   pub tx-moves : {k : ℕ} {a : List ℕ} → Stands plan k a → TxTimerMoves plan k a t
-  unfolding after tickedArea timer
+  unfolding after tickedArea timer Spares
   tx-moves {k} {a} s =
       record {
         handled = when-handled timer s;
@@ -51,22 +59,14 @@ module _ (plan : List ℕ) (good : GoodPlan plan) (t : ℕ) (h : t < length (txO
         scheduled =
             λ n id bytes z d.
             ⊎-elim (λ x. absurd (d (x .wait ∙ z))) (λ x. x .count ∙ s .reads .tx t h .reload) (tx-received s t h n id bytes .how);
-        unscheduled = λ n id bytes e. ⊎-elim (λ x. x .count) (λ x. absurd (omega arith)) (tx-received s t h n id bytes .how);
+        unscheduled = λ n id bytes f. spared k a s n id bytes f;
         take = when-taken timer a;
       }
 
-  -- a reception that does not schedule the frame: it waited already, or does not wait now
-  spared :
-      (k : ℕ) (a : List ℕ) → Stands plan k a → (n id : ℕ) (payload : List ℕ) → Spares t (reception n id payload) a
-      → txValue (after (reception n id payload) a) t ≡ txValue a t
-  unfolding after Spares
-  spared k a s n id payload f =
-      ⊎-elim (λ x. x .count) (λ x. absurd (omega (arith, x .after, f (x .before)))) (tx-received s t h n id payload .how)
-
-  pub tx-waiting : {k : ℕ} {a : List ℕ} → Stands plan k a → (more : List Call) → AllSpare t more a
+  pub tx-waiting : {k : ℕ} {a : List ℕ} → Stands plan k a → (more : List Call) → All (Spares t) more a
       → handlings (txAt plan t .prescaler) k more a < txValue a t
       → txValue (afterAll more a) t + handlings (txAt plan t .prescaler) k more a ≡ txValue a t
-  unfolding Spares AllSpare timer
+  unfolding Spares All timer
   tx-waiting {k} {a} s more all l =
-      stretch timer (Spares t) (λ p b f. f) spared (AllSpare t) (λ cs b. Unit {0}) (λ c cs b f. f) (λ b. tt) (λ m b x c cs few rest. tt)
+      stretch timer (Spares t) (λ p b f. f) spared (All (Spares t)) (λ cs b. Unit {0}) (λ c cs b f. f) (λ b. tt) (λ m b x c cs few rest. tt)
       more k a s all l .0

@@ -18,7 +18,7 @@ use Rattle.tables.specs.Reads.{txAt, rowAt}
 use Rattle.tables.specs.Statements.{Names}
 use Rattle.history.specs.Calls.{Call, reception, tick, take, after, afterAll}
 use Rattle.history.specs.Past.{pastOf}
-use Rattle.timing.specs.Ticks.{numberAfterAll, handlings, AllLeave, AllSpare, AllSilent}
+use Rattle.timing.specs.Ticks.{numberAfterAll, handlings, All, Leaves, Spares, Silent}
 
 abbrev pub AfterTicks : (List ℕ → ℕ → List ℕ → Type 0) → Type 0
 AfterTicks P =
@@ -61,11 +61,11 @@ RxTimerRule = AfterTicks (λ plan k a. (r : ℕ) → r < length (rowsOf plan) �
 -- handlings it holds what is left, and no tick among them reports it; so it holds 1, and expires, at the v-th
 pub record RxWaits (plan : List ℕ) (k : ℕ) (a : List ℕ) (r : ℕ) (more : List Call) : Type 0 where
   pub left : rxValue (afterAll more a) r + handlings (rowAt plan r .frame .prescaler) k more a ≡ rxValue a r
-  pub silent : AllSilent r more a
+  pub silent : All (Silent r) more a
 
 abbrev pub RxExpiryRule : Type 0
 RxExpiryRule =
-    AfterTicks (λ plan k a. (r : ℕ) → r < length (rowsOf plan) → (more : List Call) → AllLeave plan r more a
+    AfterTicks (λ plan k a. (r : ℕ) → r < length (rowsOf plan) → (more : List Call) → All (Leaves plan r) more a
     → handlings (rowAt plan r .frame .prescaler) k more a < rxValue a r → RxWaits plan k a r more)
 
 -- ---- the report and the long counters
@@ -114,7 +114,7 @@ pub record TxTimerMoves (plan : List ℕ) (k : ℕ) (a : List ℕ) (t : ℕ) : T
   -- "the frame joins its node's queue .. and its Tx timer takes its reload value"; a waiting frame's timer is not loaded again
   pub scheduled : (n id : ℕ) (bytes : List ℕ) → byteAt a (waits t) ≡ 0 → byteAt (after (reception n id bytes) a) (waits t) ≢ 0
       → txValue (after (reception n id bytes) a) t ≡ txAt plan t .reload
-  pub unscheduled : (n id : ℕ) (bytes : List ℕ) → byteAt (after (reception n id bytes) a) (waits t) ≡ byteAt a (waits t)
+  pub unscheduled : (n id : ℕ) (bytes : List ℕ) → (byteAt a (waits t) ≡ 0 → byteAt (after (reception n id bytes) a) (waits t) ≡ 0)
       → txValue (after (reception n id bytes) a) t ≡ txValue a t
   pub take : (n : ℕ) → txValue (after (take n) a) t ≡ txValue a t
 
@@ -123,6 +123,6 @@ TxTimerRule = AfterTicks (λ plan k a. (t : ℕ) → t < length (txOf plan) → 
 
 abbrev pub TxExpiryRule : Type 0
 TxExpiryRule =
-    AfterTicks (λ plan k a. (t : ℕ) → t < length (txOf plan) → (more : List Call) → AllSpare t more a
+    AfterTicks (λ plan k a. (t : ℕ) → t < length (txOf plan) → (more : List Call) → All (Spares t) more a
     → handlings (txAt plan t .prescaler) k more a < txValue a t
     → txValue (afterAll more a) t + handlings (txAt plan t .prescaler) k more a ≡ txValue a t)

@@ -51,6 +51,12 @@ unfoldable pub handlings : ℕ → ℕ → List Call → List ℕ → ℕ
 handlings p k [] a = 0
 handlings p k (c ∷ cs) a = handlingOf p k c a + handlings p (numberAfter k c a) cs (after c a)
 
+-- ---- something of each of some calls, on the area that it finds
+
+unfoldable pub All : (Call → List ℕ → Type 0) → List Call → List ℕ → Type 0
+All P [] a = Unit {0}
+All P (c ∷ cs) a = P c a × All P cs (after c a)
+
 -- ---- "unless loaded again first"
 
 -- a call neither opens the area nor is accepted for Rx frame r
@@ -61,10 +67,6 @@ Leaves plan r (tick report) a = Unit {0}
 Leaves plan r (take n) a = Unit {0}
 Leaves plan r (fullness t) a = Unit {0}
 
-unfoldable pub AllLeave : List ℕ → ℕ → List Call → List ℕ → Type 0
-AllLeave plan r [] a = Unit {0}
-AllLeave plan r (c ∷ cs) a = Leaves plan r c a × AllLeave plan r cs (after c a)
-
 -- a call neither opens the area nor is a reception that schedules Tx frame t
 unfoldable pub Spares : ℕ → Call → List ℕ → Type 0
 Spares t (opening p) a = ifOpened (openAnswer p a) 1 0 ≡ 0
@@ -73,11 +75,7 @@ Spares t (tick report) a = Unit {0}
 Spares t (take n) a = Unit {0}
 Spares t (fullness x) a = Unit {0}
 
-unfoldable pub AllSpare : ℕ → List Call → List ℕ → Type 0
-AllSpare t [] a = Unit {0}
-AllSpare t (c ∷ cs) a = Spares t c a × AllSpare t cs (after c a)
-
--- ---- no tick among some calls reports Rx frame r
+-- ---- a tick does not report Rx frame r
 
 unfoldable pub Silent : ℕ → Call → List ℕ → Type 0
 Silent r (opening p) a = Unit {0}
@@ -85,7 +83,3 @@ Silent r (reception n id payload) a = Unit {0}
 Silent r (tick report) a = tickAnswer a report ≡ ticked.Done → byteAt (tickedReport (tickAnswer a report) a report) r ≡ 0
 Silent r (take n) a = Unit {0}
 Silent r (fullness t) a = Unit {0}
-
-unfoldable pub AllSilent : ℕ → List Call → List ℕ → Type 0
-AllSilent r [] a = Unit {0}
-AllSilent r (c ∷ cs) a = Silent r c a × AllSilent r cs (after c a)

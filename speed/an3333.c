@@ -1,0 +1,210 @@
+// Reception, tick and take in C, after AN3333, section 3.2.
+#include "an3333.h"
+
+static struct tables *opened(const uint8_t *area, size_t length)
+{
+    if (length < AREA_SIZE || area[0] != 0x47 || area[1] != 0x57)
+        return 0;
+    return (struct tables *)area;
+}
+
+// RxFindFrmId: the middle row first, then the half that remains.
+static struct rx_frame *find(struct tables *g, const struct node *node, uint32_t id)
+{
+    struct rx_frame *base = &g->rx[node->first_row];
+    for (unsigned i = node->rows; i != 0; i >>= 1) {
+        struct rx_frame *p = base + (i >> 1);
+        if (id == p->id)
+            return p;
+        if (id > p->id) {
+            base = p + 1;
+            i--;
+        }
+    }
+    return 0;
+}
+
+// FrameTransmit: a frame that waits already stays as it is.
+static void schedule(struct tables *g, struct tx_frame *tx)
+{
+    if (tx->flags & SCHEDULED)
+        return;
+    struct node *node = &g->node[tx->node];
+    tx->flags |= SCHEDULED;
+    g->ring[node->ring + node->add] = tx;
+    if (++node->add == node->ring_size)
+        node->add = 0;
+    tx->timer.count = tx->timer.reload;
+}
+
+// BitAssign: the failure bit of a frame, in the Tx frame of its first signal's first destination.
+static void assign_failure(struct tables *g, const struct rx_frame *rx, int value)
+{
+    uint8_t *byte = &g->tx[g->descriptor[rx->descriptors + 1].destination.tx].data[rx->failure_position / 8];
+    unsigned digit = rx->failure_position % 8;
+    uint8_t bit = g->order ? 1 << digit : 0x80 >> digit;
+    *byte = value ? *byte | bit : *byte & ~bit;
+}
+
+// CopySignalChkBE: one turn for each byte of the destination, made of eight bits of the source, which two of its bytes hold. A byte of the
+// destination that does not change is not written.
+static int copy_big(const uint8_t *source, unsigned p, unsigned size, uint8_t *to, unsigned q)
+{
+    unsigned skipped = q & 7, at = p + 8 - skipped, shift = 8 - (at & 7), mask = 0xff >> skipped, change;
+    int changed = 0;
+    source += at >> 3;
+    to += q >> 3;
+    for (size += skipped; size > 8; size -= 8, source++, to++) {
+        change = ((source[0] << 8 | source[1]) >> shift ^ *to) & mask;
+        if (change) {
+            *to ^= change;
+            changed = 1;
+        }
+        mask = 0xff;
+    }
+    change = ((source[0] << 8 | source[1]) >> shift ^ *to) & mask & 0xff00 >> size;
+    if (!change)
+        return changed;
+    *to ^= change;
+    return 1;
+}
+
+// The same for little order: bit 0 is the lowest of its byte.
+static int copy_little(const uint8_t *source, unsigned p, unsigned size, uint8_t *to, unsigned q)
+{
+    unsigned skipped = q & 7, at = p + 8 - skipped, shift = at & 7, mask = 0xff << skipped & 0xff, change;
+    int changed = 0;
+    source += at >> 3;
+    to += q >> 3;
+    for (size += skipped; size > 8; size -= 8, source++, to++) {
+        change = ((source[0] | source[1] << 8) >> shift ^ *to) & mask;
+        if (change) {
+            *to ^= change;
+            changed = 1;
+        }
+        mask = 0xff;
+    }
+    change = ((source[0] | source[1] << 8) >> shift ^ *to) & mask & 0xff >> (8 - size);
+    if (!change)
+        return changed;
+    *to ^= change;
+    return 1;
+}
+
+// CopySignals: the signals of a frame, each to its destinations.
+static void copy_signals(struct tables *g, const struct rx_frame *rx, const uint8_t *source)
+{
+    const union descriptor *d = &g->descriptor[rx->descriptors];
+    for (unsigned signals = rx->signals; signals; signals--) {
+        unsigned p = d->signal.position, size = d->signal.size, destinations = d->signal.destinations;
+        for (d++; destinations; destinations--, d++) {
+            struct tx_frame *tx = &g->tx[d->destination.tx];
+            unsigned q = d->destination.position;
+            int changed = g->order ? copy_little(source, p, size, tx->data, q) : copy_big(source, p, size, tx->data, q);
+            if (tx->flags & SEND_ON_RECEPTION || (changed && tx->flags & SEND_ON_CHANGE))
+                schedule(g, tx);
+        }
+    }
+}
+
+uint64_t an3333_receive(uint8_t *area, size_t area_length, size_t node, uint32_t id, const uint8_t *payload, size_t payload_length)
+{
+    struct tables *g = opened(area, area_length);
+    if (!g)
+        return 11;
+    if (node >= g->nodes)
+        return 12;
+    if (payload_length > 8)
+        return 13;
+    struct rx_frame *rx = find(g, &g->node[node], id);
+    if (!rx)
+        return 1;
+    if (payload_length < rx->size)
+        return 2;
+    // a byte before and one behind, for the two bytes that are read at once may begin or end outside
+    uint8_t source[10] = {0};
+    memcpy(source + 1, payload, rx->size);
+    rx->timer.count = rx->timer.reload;
+    if (rx->failure_position != NO_INDICATOR)
+        assign_failure(g, rx, 0);
+    copy_signals(g, rx, source);
+    return 0;
+}
+
+// Handles a timer, and says whether it expired.
+static int expired(struct timer *timer, uint8_t mask, uint8_t counter)
+{
+    if (counter & mask || timer->count == 0 || --timer->count != 0)
+        return 0;
+    timer->count = timer->reload;
+    return 1;
+}
+
+// GatewayRxTimeout: the byte of the report, 1 short and 2 long.
+static uint8_t time_out(struct tables *g, struct rx_frame *rx)
+{
+    if (rx->failure_position != NO_INDICATOR)
+        assign_failure(g, rx, 1);
+    if (rx->long_count == 0 || --rx->long_count != 0)
+        return 1;
+    rx->long_count = rx->long_reload;
+    return 2;
+}
+
+// GatewayTick: the counter moves on last.
+uint64_t an3333_tick(uint8_t *area, size_t area_length, uint8_t *report, size_t report_length)
+{
+    struct tables *g = opened(area, area_length);
+    if (!g)
+        return 11;
+    if (report_length < g->rx_frames)
+        return 14;
+    uint8_t counter = g->counter;
+    for (struct tx_frame *tx = g->tx, *end = tx + g->tx_frames; tx < end; tx++)
+        if (expired(&tx->timer, tx->mask, counter))
+            schedule(g, tx);
+    for (struct rx_frame *rx = g->rx, *end = rx + g->rx_frames; rx < end; rx++)
+        *report++ = expired(&rx->timer, rx->mask, counter) ? time_out(g, rx) : 0;
+    counter++;
+    g->counter = (counter & 15) == 10 ? counter + 6 : counter;
+    return 0;
+}
+
+// MsCanTxEmptyIsr: the oldest frame of a node's ring.
+uint64_t an3333_take(uint8_t *area, size_t area_length, size_t node_number)
+{
+    struct tables *g = opened(area, area_length);
+    if (!g)
+        return 11;
+    if (node_number >= g->nodes)
+        return 12;
+    struct node *node = &g->node[node_number];
+    if (node->take == node->add)
+        return 0;
+    struct tx_frame *tx = g->ring[node->ring + node->take];
+    if (++node->take == node->ring_size)
+        node->take = 0;
+    tx->flags &= ~SCHEDULED;
+    int waiting = node->add - node->take;
+    if (waiting < 0)
+        waiting += node->ring_size;
+    return word(256, (uint64_t)(tx - g->tx) | tx->size << 8, tx->id, (unsigned)waiting);
+}
+
+uint64_t an3333_payload(const uint8_t *area, size_t area_length, uint64_t taken)
+{
+    (void)area;
+    if ((taken & 0xffff) != 256 || area_length < AREA_SIZE)
+        return 0;
+    return word(0, taken >> 24 & 0xff, offsetof(struct tables, tx) + sizeof(struct tx_frame) * (taken >> 16 & 0xff), 0);
+}
+
+uint64_t an3333_fullness(const uint8_t *area, size_t area_length, size_t tx)
+{
+    const struct tables *g = opened(area, area_length);
+    if (!g)
+        return 11;
+    if (tx >= g->tx_frames)
+        return 15;
+    return word(0, g->owned[tx], 0, 0);
+}

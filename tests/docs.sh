@@ -1,5 +1,5 @@
 #!/usr/bin/env bash
-# The edits, paths and pictures that the pages name are there, and docs/PROMISES.md lists every public function as it is.
+# The edits, paths, pictures and counts that the pages name are there, and docs/PROMISES.md lists every public function as it is.
 set -u
 python3 - <<'P' || exit 1
 import glob, os, re, sys
@@ -15,4 +15,5 @@ print('\n'.join(wrong) or 'ok')
 sys.exit(bool(wrong))
 P
 tools/promises --check || exit 1
+tools/believe --check || exit 1
 tools/area-picture --check

@@ -96,6 +96,10 @@ int main(int count, char **arguments)
     expect("Tx frames", gateway_opened_tx(opened), 4);
     expect("Rx frames", gateway_opened_rx(opened), 1);
     expect("the byte past the area", area[GATEWAY_AREA_SIZE], 0x5a);
+    expect("tick, one byte short", gateway_tick(area, GATEWAY_AREA_SIZE - 1, report, sizeof report), GATEWAY_REFUSED_NOT_OPEN);
+    expect("receive, one byte short", gateway_receive(area, GATEWAY_AREA_SIZE - 1, 0, 0x20, payload, 1), GATEWAY_REFUSED_NOT_OPEN);
+    expect("take, one byte short", gateway_take(area, GATEWAY_AREA_SIZE - 1, 0), GATEWAY_REFUSED_NOT_OPEN);
+    expect("fullness, one byte short", gateway_fullness(area, GATEWAY_AREA_SIZE - 1, 0), GATEWAY_REFUSED_NOT_OPEN);
 
     expect("fullness", gateway_owned_bits(gateway_fullness(area, GATEWAY_AREA_SIZE, 1)), 3);
     expect("no such Tx frame", gateway_fullness(area, GATEWAY_AREA_SIZE, 4), GATEWAY_REFUSED_NO_FRAME);

@@ -4,10 +4,11 @@ use mathlib.Core.List.{List, [], _∷_}
 use Prim.Native.Nat.{ℕ}
 use types.Run.{OneOf, miss}
 use denote.Enum.Declared.{tagOf}
+use Rattle.records.specs.Records.{noRx, noTx}
 use Rattle.records.specs.declared.record.Record.{Record}
 use Rattle.records.specs.declared.record.Record.the-variants.{Head, Node, Tx, Rx, Signal, Destination, BadKind, Cut, End}
 use Rattle.records.proofs.record.Record.{the-type}
-use Rattle.area.specs.Layout.{noTx, noRx, asTx, asRx}
+use Rattle.area.specs.Layout.{asTx, asRx}
 
 abbrev pub others-tx : List ℕ
 others-tx = 0 ∷ 1 ∷ 3 ∷ 4 ∷ 5 ∷ 6 ∷ 7 ∷ 8 ∷ []

@@ -11,7 +11,7 @@ use Rattle.records.specs.declared.record.TxFrame.{TxFrame}
 use Rattle.records.specs.declared.record.RxFrame.{RxFrame}
 use Rattle.records.specs.declared.record.Record.{Record}
 use Rattle.records.specs.declared.record.Record.the-variants.{Head, Node, Tx, Rx, Signal, Destination, BadKind, Cut, End}
-use Rattle.records.specs.Records.{recordAt, recordsAt}
+use Rattle.records.specs.Records.{recordAt, recordsAt, noTx, noRx}
 use Rattle.plan.specs.Rows.{Claim, claimsFrom, awaited}
 
 -- ---- places
@@ -84,23 +84,6 @@ rxCount a = twoAt a 10 % 257
 
 unfoldable pub planOf : List ℕ → List ℕ
 planOf a = take (twoAt a 4 % 23809) (drop 8960 a)
-
--- a place that is no frame's has these
-abbrev pub noTx : TxFrame
-noTx =
-    record {
-      node = 0;
-      id = 0;
-      size = 0;
-      prescaler = 0;
-      reload = 0;
-      initial = 0;
-      flags = 0;
-      payload = record { 0 = 0; 1 = 0; 2 = 0; 3 = 0; 4 = 0; 5 = 0; 6 = 0; 7 = 0 };
-    }
-
-abbrev pub noRx : RxFrame
-noRx = record { node = 0; id = 0; size = 0; prescaler = 0; reload = 0; initial = 0; enable = 0; position = 0; long = 0 }
 
 unfoldable pub asTx : Record → TxFrame
 asTx (Tx frame) = frame

@@ -15,13 +15,28 @@ use reception::receive::receive;
 use taking::payload;
 use taking::take;
 use ticking::tick::tick;
-ghost use Prim.Native.Nat.{_+_, _≤_, _<_};
-ghost use lib.ListN.{length};
+ghost use mathlib.Core.Path.{_≡_};
+ghost use mathlib.Core.List.{_++_};
+ghost use Prim.Native.Nat.{_+_, _%_, _≤_, _<_};
+ghost use lib.ListN.{length, take, replicate};
+ghost use Rattle.reception.specs.Reception.{receivedArea};
+ghost use Rattle.ticking.specs.Tick.{tickAnswer, tickedArea};
+ghost use Rattle.taking.specs.Taken.{takenArea};
+ghost use Rattle.events.specs.Events.{payloadAt};
+ghost use Rattle.text.specs.Text.{LineIs};
+ghost use Rattle.output.specs.Output.{receivedText, fresh, tickedText, takenText, lineAt, areaAt, nextAt, textFrom, openOf, planText, benchOutput};
 
-// What an event did: how long the line is that it wrote, and where the next event begins. After a bad one that is the input's end.
+// What was done: how much text stands at the buffer's start, and where the next event begins. After a bad one that is the input's end.
 struct Step {
     size: usize,
     next: usize,
+}
+
+// What the first line did: the same, and how many Rx frames the plan has.
+struct Begun {
+    size: usize,
+    next: usize,
+    rx: usize,
 }
 
 // A reception, a tick, a take: each writes its line at the start of the buffer, and answers how long the line is.
@@ -34,7 +49,9 @@ fn received(
     line: &mut [u8],
 ) -> usize
     requires { ⌜ (at + 13 ≤ length (now input)) × (2048 ≤ length (now line)) ⌝ }
-    ensures { λ r. ⌜ r ≤ 2048 ⌝ }
+    ensures text { λ r. ⌜ LineIs (receivedText (now (area .entry)) node id (payloadAt (now (input .entry)) at))
+        (now (line .entry)) (now (line .exit)) r ⌝ }
+    ensures bytes { λ r. ⌜ now (area .exit) ≡ receivedArea (now (area .entry)) node (id % 65536) (payloadAt (now (input .entry)) at) ⌝ }
 {
     let mut data = [0u8; 9];
     let n = payload_at(input, at, &mut data);
@@ -42,33 +59,31 @@ fn received(
     rx_line(answer, line)
 }
 
-fn ticked(area: &mut [u8], report: &mut [u8], rx: usize, line: &mut [u8]) -> usize
-    requires { ⌜ (rx ≤ length (now report)) × (length (now report) ≤ 256) × (2048 ≤ length (now line)) ⌝ }
-    ensures { λ r. ⌜ r ≤ 2048 ⌝ }
+fn ticked(area: &mut [u8], rx: usize, line: &mut [u8]) -> usize
+    requires { ⌜ (rx ≤ 256) × (2048 ≤ length (now line)) ⌝ }
+    ensures text { λ r. ⌜ LineIs (tickedText (now (area .entry)) rx) (now (line .entry)) (now (line .exit)) r ⌝ }
+    ensures bytes { λ r. ⌜ now (area .exit) ≡ tickedArea (tickAnswer (now (area .entry)) (fresh rx)) (now (area .entry)) ⌝ }
 {
-    let answer = tick(area, report);
+    let mut report = [0u8; 256];
+    let answer = tick(area, &mut report[..rx]);
     tick_line(answer, &report[..rx], line)
 }
 
 fn took(area: &mut [u8], node: usize, line: &mut [u8]) -> usize
     requires { ⌜ 2048 ≤ length (now line) ⌝ }
-    ensures { λ r. ⌜ r ≤ 2048 ⌝ }
+    ensures text { λ r. ⌜ LineIs (takenText (now (area .entry)) node) (now (line .entry)) (now (line .exit)) r ⌝ }
+    ensures bytes { λ r. ⌜ now (area .exit) ≡ takenArea (now (area .entry)) node ⌝ }
 {
     let answer = take(area, node);
     take_line(answer, payload(area, answer), line)
 }
 
 // The event at a place.
-fn event(
-    input: &[u8],
-    at: usize,
-    area: &mut [u8],
-    report: &mut [u8],
-    rx: usize,
-    line: &mut [u8],
-) -> Step
-    requires { ⌜ (at < length (now input)) × (rx ≤ length (now report)) × (length (now report) ≤ 256) × (2048 ≤ length (now line)) ⌝ }
-    ensures { λ r. ⌜ (r .size ≤ 2048) × (at < r .next) × (r .next ≤ length (now (input .entry))) ⌝ }
+fn event(input: &[u8], at: usize, area: &mut [u8], rx: usize, line: &mut [u8]) -> Step
+    requires { ⌜ (at < length (now input)) × (rx ≤ 256) × (2048 ≤ length (now line)) ⌝ }
+    ensures text { λ r. ⌜ LineIs (lineAt (now (input .entry)) at rx (now (area .entry))) (now (line .entry)) (now (line .exit)) (r .size) ⌝ }
+    ensures bytes { λ r. ⌜ now (area .exit) ≡ areaAt (now (input .entry)) at rx (now (area .entry)) ⌝ }
+    ensures next { λ r. ⌜ (r .next ≡ nextAt (now (input .entry)) at) × (at < r .next) × (r .next ≤ length (now (input .entry))) ⌝ }
 {
     match event_at(input, at) {
         Event::Reception {
@@ -80,7 +95,7 @@ fn event(
             next: at + 13,
         },
         Event::Tick => Step {
-            size: ticked(area, report, rx, line),
+            size: ticked(area, rx, line),
             next: at + 1,
         },
         Event::Take { node } => Step {
@@ -98,64 +113,104 @@ fn event(
     }
 }
 
-// Writes the first bytes of a buffer to standard output.
-fn show(text: &[u8], size: usize)
-    requires { ⌜ size ≤ length (now text) ⌝ }
+// The events from a place on, as many as the buffer has room for: what it shows now, and what the rest will show, is what is to be shown.
+fn fill(input: &[u8], from: usize, area: &mut [u8], rx: usize, out: &mut [u8]) -> Step
+    requires { ⌜ (from ≤ length (now input)) × (rx ≤ 256) × (length (now out) ≡ 65536) ⌝ }
+    ensures text { λ r. ⌜ take (r .size) (now (out .exit)) ++ textFrom (now (input .entry)) (r .next) rx (now (area .exit))
+        ≡ textFrom (now (input .entry)) from rx (now (area .entry)) ⌝ }
+    ensures next { λ r. ⌜ (r .size ≤ 65536) × (r .next ≤ length (now (input .entry)))
+        × (from < length (now (input .entry)) → from < r .next) ⌝ }
 {
-    io::write_all(1, &text[..size]);
-}
-
-// Shows what a buffer has where it lacks room for a line more. The answer is how much of it is used then.
-fn make_room(out: &[u8], used: usize) -> usize
-    requires { ⌜ used ≤ length (now out) ⌝ }
-    ensures { λ r. ⌜ r ≤ 63488 ⌝ }
-{
-    if used <= 63488 {
-        return used;
-    }
-    show(out, used);
-    0
-}
-
-// All events from a place on.
-fn events(input: &[u8], from: usize, area: &mut [u8], rx: usize)
-    requires { ⌜ (from ≤ length (now input)) × (rx ≤ 256) ⌝ }
-{
-    let mut report = [0u8; 256];
-    let mut out = [0u8; 65536];
     let mut used = 0;
     let mut at = from;
     while at < input.len() {
-        used = make_room(&out, used);
-        let step = event(input, at, area, &mut report, rx, &mut out[used..]);
+        if 63488 < used {
+            return Step {
+                size: used,
+                next: at,
+            };
+        }
+        let step = event(input, at, area, rx, &mut out[used..]);
         used += step.size;
         at = step.next;
     }
-    show(&out, used);
+    Step {
+        size: used,
+        next: at,
+    }
 }
 
-// The whole input: the plan's line, and where the plan is good the events' lines.
-fn run(input: &[u8]) {
-    let mut line = [0u8; 2048];
-    match front_of(input) {
-        Front::Bad => {
-            let n = bad_line(&mut line);
-            show(&line, n);
-        }
-        Front::Plan { end } => {
-            let mut area = [0u8; 32768];
-            let answer = open(&input[2..end], &mut area);
-            let n = plan_line(answer, &mut line);
-            show(&line, n);
-            if let Opened::Open {
-                nodes: _,
-                tx: _,
-                rx,
-            } = answer {
-                events(input, end, &mut area, rx);
-            }
-        }
+// The plan's line, and where the events begin; where the plan is refused, at the input's end.
+fn opening(input: &[u8], end: usize, area: &mut [u8], out: &mut [u8]) -> Begun
+    requires { ⌜ (2 ≤ end) × (end ≤ length (now input)) × (now area ≡ replicate 32768 0) × (2048 ≤ length (now out)) ⌝ }
+    ensures text { λ r. ⌜ take (r .size) (now (out .exit)) ++ textFrom (now (input .entry)) (r .next) (r .rx) (now (area .exit))
+        ≡ planText (openOf (now (input .entry)) end) (now (input .entry)) end ⌝ }
+    ensures next { λ r. ⌜ (r .size ≤ 2048) × (r .next ≤ length (now (input .entry))) × (r .rx ≤ 256) ⌝ }
+{
+    let answer = open(&input[2..end], area);
+    let size = plan_line(answer, out);
+    match answer {
+        Opened::Open {
+            nodes: _,
+            tx: _,
+            rx,
+        } => Begun {
+            size,
+            next: end,
+            rx,
+        },
+        Opened::Refused { why: _, record: _ } => Begun {
+            size,
+            next: input.len(),
+            rx: 0,
+        },
     }
+}
+
+// The first line: what it shows, and what the events will show, is the whole output.
+fn begin(input: &[u8], area: &mut [u8], out: &mut [u8]) -> Begun
+    requires { ⌜ (now area ≡ replicate 32768 0) × (2048 ≤ length (now out)) ⌝ }
+    ensures text { λ r. ⌜ take (r .size) (now (out .exit)) ++ textFrom (now (input .entry)) (r .next) (r .rx) (now (area .exit))
+        ≡ benchOutput (now (input .entry)) ⌝ }
+    ensures next { λ r. ⌜ (r .size ≤ 2048) × (r .next ≤ length (now (input .entry))) × (r .rx ≤ 256) ⌝ }
+{
+    match front_of(input) {
+        Front::Bad => Begun {
+            size: bad_line(out),
+            next: input.len(),
+            rx: 0,
+        },
+        Front::Plan { end } => opening(input, end, area, out),
+    }
+}
+
+// Writes the first bytes of a buffer to standard output. The answer is how many it handed on.
+fn show(text: &[u8], size: usize) -> usize
+    requires { ⌜ size ≤ length (now text) ⌝ }
+    ensures { λ r. ⌜ r ≡ size ⌝ }
+{
+    let shown = &text[..size];
+    io::write_all(1, shown);
+    shown.len()
+}
+
+// The whole input, one buffer after the other. The answer is how many bytes were handed on: as many as the output has.
+fn run(input: &[u8]) -> usize
+    requires { ⌜ length (now input) ≤ 65537 ⌝ }
+    ensures { λ r. ⌜ r ≡ length (benchOutput (now (input .entry))) ⌝ }
+{
+    let mut area = [0u8; 32768];
+    let mut out = [0u8; 65536];
+    let first = begin(input, &mut area, &mut out);
+    let mut total = show(&out, first.size);
+    let rx = first.rx;
+    let mut at = first.next;
+    while at < input.len() {
+        let step = fill(input, at, &mut area, rx, &mut out);
+        total += show(&out, step.size);
+        at = step.next;
+    }
+    total
 }
 
 fn main() {

@@ -7,7 +7,7 @@ use native.Mathlib.Omega.{arith}
 use borrow.Author.Tests.{leb-true, ltb-true}
 use lib.Dec.{leb, ltb}
 use lib.ListN.{length}
-use Rattle.base.specs.Numbers.{byteAt}
+use Rattle.base.specs.Numbers.{byteAt, Bytes}
 use Rattle.base.proofs.Picks.{both, cases}
 use Rattle.plan.specs.declared.verdict.Verdict.{Verdict}
 use Rattle.plan.specs.declared.verdict.Verdict.the-variants as verdict
@@ -24,13 +24,16 @@ use Rattle.ticking.proofs.Positions.{bytes-positions}
 use Rattle.ticking.proofs.TickFrame.{kept-ticked}
 use Rattle.ticking.proofs.TickLaws.{by-answer}
 use Rattle.taking.specs.Taken.{oldestArea, takenArea}
-use Rattle.history.specs.Calls.{Call, opening, reception, tick, take, fullness, after}
-use Rattle.demands.specs.Demand1.{Bytes, Stays}
+use Rattle.model.specs.Calls.{Step, opening, reception, tick, take, fullness, call}
+use Rattle.history.specs.Calls.{areaAfter, stepped}
+use Rattle.refines.specs.Shows.{Marked}
+use Rattle.refines.proofs.Worlds.{marks, is-marked}
+use Rattle.demands.specs.Demand1.{Stays}
 
 -- where only places of the state change, all three stay
-kept-stays : (c : Call) (a : List ℕ) → Kept a (after c a) → Stays c a
+kept-stays : (c : Step) (a : List ℕ) → Kept a (stepped a c) → Stays c a
 kept-stays c a k =
-    record { size = k .len; mark = λ m. marked-kept k ∙ m; past = λ j h. k .at j (in-plan j (omega arith)) }
+    record { size = k .len; mark = λ m. is-marked _ (marked-kept k ∙ marks m); past = λ j h. k .at j (in-plan j (omega arith)) }
 
 kept-taken : (a : List ℕ) (n : ℕ) → Kept a (takenArea a n)
 unfolding takenArea oldestArea
@@ -43,8 +46,8 @@ kept-taken a n =
 
 -- an opening writes where the plan is good and the area long enough
 opening-stays : (plan a : List ℕ) → Stays (opening plan) a
-unfolding after openedAnswer openedArea
-opening-stays plan a = let p = go (checkPlan plan) refl in record { size = p .0; mark = p .1; past = p .2 }
+unfolding areaAfter stepped openedAnswer openedArea
+opening-stays plan a = let p = go (checkPlan plan) refl in record { size = p .0; mark = λ m. is-marked _ (p .1 (marks m)); past = p .2 }
   where
     P : Opened → Type 0
     P x =
@@ -60,11 +63,11 @@ opening-stays plan a = let p = go (checkPlan plan) refl in record { size = p .0;
         (λ l. (refl, (λ m. m), (λ j h. refl)))
     go (verdict.Refused why number) e = (refl, (λ m. m), (λ j h. refl))
 
-pub call-stays : (c : Call) (a : List ℕ) → Bytes a → Stays c a
-unfolding after
-call-stays (opening plan) a b = opening-stays plan a
-call-stays (reception n id payload) a b = kept-stays _ a (kept-received a b n id payload)
-call-stays (tick report) a b =
+pub step-stays : (c : Step) (a : List ℕ) → Bytes a → Stays c a
+unfolding areaAfter stepped
+step-stays (opening plan) a b = opening-stays plan a
+step-stays (call (reception n id payload)) a b = kept-stays _ a (kept-received a b n id payload)
+step-stays (call (tick report)) a b =
     kept-stays _ a (by-answer (Kept a) (tickAnswer a report) a (kept-ticked a (bytes-positions a b)) (kept-refl a))
-call-stays (take n) a b = kept-stays _ a (kept-taken a n)
-call-stays (fullness t) a b = kept-stays _ a (kept-refl a)
+step-stays (call (take n)) a b = kept-stays _ a (kept-taken a n)
+step-stays (call (fullness t)) a b = kept-stays _ a (kept-refl a)

@@ -1,5 +1,6 @@
+pub mod Cases
+pub mod Numbers
+pub mod Texts
 pub mod Demand1
 pub mod Demand2
 pub mod Demand3
-pub mod Cases
-pub mod Tight

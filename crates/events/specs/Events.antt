@@ -20,6 +20,10 @@ frontOf input =
     (pick (ltb (length input) (2 + twoAt input 0)) front.Bad
     (front.Plan (2 + twoAt input 0))))
 
+-- the plan, where it ends at a place
+abbrev pub planOf : List ℕ → ℕ → List ℕ
+planOf input end = take (end - 2) (drop 2 input)
+
 -- what the program relies on: the plan lies within the input, behind its length
 abbrev pub Inside : List ℕ → Front → Type 0
 Inside input f = (end : ℕ) → f ≡ front.Plan end → (2 ≤ end) × (end ≤ length input)

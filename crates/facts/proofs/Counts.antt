@@ -25,7 +25,7 @@ pub record Bounded (c : Counts) : Type 0 where
   pub signals : c .signals ≤ 1024
   pub destinations : c .destinations ≤ 2048
 
-bounded-more : (c : Counts) (row : Row) (r : Record) → hasRoom c row r ≡ true → Bounded c → Bounded (counted c r)
+pub bounded-more : (c : Counts) (row : Row) (r : Record) → hasRoom c row r ≡ true → Bounded c → Bounded (counted c r)
 unfolding hasRoom counted
 bounded-more c row (Head order) e h = h
 bounded-more c row (Node type) e h = let l = ltb-true (c .nodes) 16 e in omega arith

@@ -5,7 +5,7 @@ use Rattle.records.specs.declared.record.Record.{Record}
 use Rattle.plan.specs.Check.{verdictOf, checkOn, checkPlan}
 use Rattle.facts.specs.Statements.{State, begun, stepped, stateAfter, AllGo, FirstBad}
 
-check-past :
+pub check-past :
     (s : State) (before rs : List Record) → AllGo s before
     → checkOn (s .progress) (s .sizes) (s .sets) (before ++ rs)
     ≡ checkOn (stateAfter s before .progress) (stateAfter s before .sizes) (stateAfter s before .sets) rs

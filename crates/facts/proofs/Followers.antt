@@ -27,7 +27,7 @@ pub record Awaits (kind : ℕ) (rs : List Record) : Type 0 where
   pub first : kind ≢ 0 → kind ≡ kindAt 0 rs
   pub second : kind ≡ 5 → kindAt 1 rs ≡ 6
 
-followed-is : (row : Row) (kind : ℕ) → followed row kind ≡ true → row .awaits ≢ 0 → row .awaits ≡ kind
+pub followed-is : (row : Row) (kind : ℕ) → followed row kind ≡ true → row .awaits ≢ 0 → row .awaits ≡ kind
 unfolding followed
 followed-is row kind e d =
     ⊎-elim (λ a. absurd (d (eqb-true (row .awaits) 0 a))) (eqb-true (row .awaits) kind) (either (eqb (row .awaits) 0) (eqb (row .awaits) kind) e)

@@ -17,6 +17,7 @@ pub mod GoodFacts
 pub mod FactsGood
 pub mod Lengths
 pub mod Bounds
+pub mod ByNumber
 pub mod OneOwner
 pub mod First
 pub mod Cases

@@ -17,10 +17,10 @@ use Rattle.facts.specs.Good.{Each, Holds, Free, Once}
 
 -- ---- bits p to p + s - 1 of one set
 
-abbrev Within : ℕ → ℕ → ℕ → Type 0
+abbrev pub Within : ℕ → ℕ → ℕ → Type 0
 Within p s b = (p ≤ b) × (b < p + s)
 
-within? : (p s b : ℕ) → Within p s b ⊎ (Within p s b → ⊥)
+pub within? : (p s b : ℕ) → Within p s b ⊎ (Within p s b → ⊥)
 within? p s b = go (decLe p b) (decLt b (p + s))
   where
     go : Dec (p ≤ b) → Dec (b < p + s) → Within p s b ⊎ (Within p s b → ⊥)
@@ -28,12 +28,12 @@ within? p s b = go (decLe p b) (decLt b (p + s))
     go (yes l) (no m) = inr (λ w. m (w .1))
     go (no l) m = inr (λ w. l (w .0))
 
-owned-in : (set p s b : ℕ) → Within p s b → digit (owned set p s) b ≡ 1
+pub owned-in : (set p s b : ℕ) → Within p s b → digit (owned set p s) b ≡ 1
 owned-in set p s b w =
     let e : p + (b - p) ≡ b = omega arith in
     rw e at (owned-bit set p s (b - p) (omega arith))
 
-owned-out : (set p s b : ℕ) → (Within p s b → ⊥) → digit (owned set p s) b ≡ digit set b
+pub owned-out : (set p s b : ℕ) → (Within p s b → ⊥) → digit (owned set p s) b ≡ digit set b
 owned-out set p s b d = owned-other set p s b (λ k l e. d (omega arith))
 
 -- ---- the sets of all Tx frames
@@ -70,10 +70,10 @@ module _ (sets : List ℕ) (c : Claim) (there : c .tx < length sets) where
       go (yes e) (inr d) = inr (λ h. d (h .low, h .high))
       go (no e) w = inr (λ h. e (h .frame))
 
-  taken-keeps : (t b : ℕ) → Has sets t b → Has (taken sets c) t b
+  pub taken-keeps : (t b : ℕ) → Has sets t b → Has (taken sets c) t b
   taken-keeps t b one = ⊎-elim (taken-in t b) (λ d. taken-out t b d ∙ one) (holds? t b)
 
-  taken-cases : (t b : ℕ) → Has (taken sets c) t b → Holds c t b ⊎ Has sets t b
+  pub taken-cases : (t b : ℕ) → Has (taken sets c) t b → Holds c t b ⊎ Has sets t b
   taken-cases t b one = ⊎-elim inl (λ d. inr (sym (taken-out t b d) ∙ one)) (holds? t b)
 
 -- ---- claims that keep off the owned bits and off each other

@@ -33,7 +33,7 @@ low-after c sizes BadKind t l = (refl, l)
 low-after c sizes (Cut kind) t l = (refl, l)
 low-after c sizes End t l = (refl, l)
 
-sizes-low : (rs : List Record) (c : Counts) (sizes : List ℕ) (t : ℕ) → t < c .tx → getD (sizesFinally c sizes rs) t 0 ≡ getD sizes t 0
+pub sizes-low : (rs : List Record) (c : Counts) (sizes : List ℕ) (t : ℕ) → t < c .tx → getD (sizesFinally c sizes rs) t 0 ≡ getD sizes t 0
 unfolding sizesFinally
 sizes-low [] c sizes t l = refl
 sizes-low (r ∷ rs) c sizes t l = let h = low-after c sizes r t l in sizes-low rs _ _ t (h .1) ∙ h .0

@@ -18,7 +18,8 @@ use Rattle.area.specs.Claims.{Event}
 use Rattle.opening.specs.Opened.{opened, openedAnswer, openedArea}
 use Rattle.tables.specs.Reads.{Reads, Begun}
 use Rattle.tables.proofs.Opened.{opened-reads}
-use Rattle.history.specs.Calls.{Call, opening, reception, tick, take, fullness, after, afterAll}
+use Rattle.model.specs.Calls.{Step, opening, reception, tick, take, fullness, call}
+use Rattle.history.specs.Calls.{areaAfter, stepped, afterIn}
 use Rattle.history.specs.Past.{Past, unopened, openedPast, told, pastAfter, pastAfterAll, pastOf}
 use Rattle.history.proofs.Later.{Later, reads-after}
 
@@ -35,8 +36,8 @@ HeldIf Q (some plan) log a = Held Q plan log a
 
 module _ (Q : List ℕ → List Event → List ℕ → Type 0)
     (begins : (plan a : List ℕ) → GoodPlan plan → Reads plan a → Begun plan a → Q plan [] a)
-    (goes-on : (plan : List ℕ) → GoodPlan plan → (log : List Event) (c : Call) → Later c → (a : List ℕ) → Reads plan a → Q plan log a
-    → Q plan (log ++ told (some plan) c a) (after c a)) where
+    (goes-on : (plan : List ℕ) → GoodPlan plan → (log : List Event) (c : Step) → Later c → (a : List ℕ) → Reads plan a → Q plan log a
+    → Q plan (log ++ told (some plan) c a) (stepped a c)) where
   abbrev Then : Past → List ℕ → Type 0
   Then past a = HeldIf Q (past .plan) (past .log) a
 
@@ -61,7 +62,7 @@ module _ (Q : List ℕ → List Event → List ℕ → Type 0)
 
   -- ---- a later call
 
-  more : (x : Option (List ℕ)) (log : List Event) (c : Call) → Later c → (a : List ℕ) → HeldIf Q x log a → HeldIf Q x (log ++ told x c a) (after c a)
+  more : (x : Option (List ℕ)) (log : List Event) (c : Step) → Later c → (a : List ℕ) → HeldIf Q x log a → HeldIf Q x (log ++ told x c a) (stepped a c)
   more none log c later a h = tt
   more (some plan) log c later a h =
       record {
@@ -72,27 +73,27 @@ module _ (Q : List ℕ → List Event → List ℕ → Type 0)
 
   -- one that tells nothing
   quiet :
-      (x : Option (List ℕ)) (log : List Event) (c : Call) → Later c → (a : List ℕ) → ((plan : List ℕ) → told (some plan) c a ≡ []) → HeldIf Q x log a
-      → HeldIf Q x log (after c a)
+      (x : Option (List ℕ)) (log : List Event) (c : Step) → Later c → (a : List ℕ) → ((plan : List ℕ) → told (some plan) c a ≡ []) → HeldIf Q x log a
+      → HeldIf Q x log (stepped a c)
   quiet none log c later a silent h = tt
   quiet (some plan) log c later a silent h =
       let e : log ++ told (some plan) c a ≡ log = rw (silent plan) (append-nil log) in rw e at (more (some plan) log c later a h)
 
   -- ---- any calls
 
-  after-call : (past : Past) (c : Call) (a : List ℕ) → Then past a → Then (pastAfter past c a) (after c a)
-  unfolding pastAfter after told
+  after-call : (past : Past) (c : Step) (a : List ℕ) → Then past a → Then (pastAfter past c a) (stepped a c)
+  unfolding pastAfter areaAfter stepped told
   after-call past (opening plan) a h = after-opening past plan a h (checkPlan plan) refl
-  after-call past (reception n id payload) a h = more (past .plan) (past .log) (reception n id payload) tt a h
-  after-call past (tick report) a h = more (past .plan) (past .log) (tick report) tt a h
-  after-call past (take n) a h = quiet (past .plan) (past .log) (take n) tt a (λ plan. refl) h
-  after-call past (fullness t) a h = quiet (past .plan) (past .log) (fullness t) tt a (λ plan. refl) h
+  after-call past (call (reception n id payload)) a h = more (past .plan) (past .log) (call (reception n id payload)) tt a h
+  after-call past (call (tick report)) a h = more (past .plan) (past .log) (call (tick report)) tt a h
+  after-call past (call (take n)) a h = quiet (past .plan) (past .log) (call (take n)) tt a (λ plan. refl) h
+  after-call past (call (fullness t)) a h = quiet (past .plan) (past .log) (call (fullness t)) tt a (λ plan. refl) h
 
-  after-calls : (past : Past) (cs : List Call) (a : List ℕ) → Then past a → Then (pastAfterAll past cs a) (afterAll cs a)
-  unfolding pastAfterAll afterAll
+  after-calls : (past : Past) (cs : List Step) (a : List ℕ) → Then past a → Then (pastAfterAll past cs a) (afterIn a cs)
+  unfolding pastAfterAll afterIn
   after-calls past [] a h = h
-  after-calls past (c ∷ cs) a h = after-calls (pastAfter past c a) cs (after c a) (after-call past c a h)
+  after-calls past (c ∷ cs) a h = after-calls (pastAfter past c a) cs (stepped a c) (after-call past c a h)
 
   pub always :
-      (a : List ℕ) (calls : List Call) (plan : List ℕ) → pastOf calls a .plan ≡ some plan → Held Q plan (pastOf calls a .log) (afterAll calls a)
+      (a : List ℕ) (calls : List Step) (plan : List ℕ) → pastOf calls a .plan ≡ some plan → Held Q plan (pastOf calls a .log) (afterIn a calls)
   always a calls plan is = rw is at (after-calls unopened calls a tt)

@@ -11,7 +11,8 @@ use Rattle.plan.specs.Rows.{txOf, orderIn}
 use Rattle.facts.specs.Good.{GoodPlan}
 use Rattle.area.specs.Claims.{Event}
 use Rattle.tables.specs.Reads.{initial, Reads, Begun}
-use Rattle.history.specs.Calls.{Call, opening, reception, tick, take, fullness, after, afterAll}
+use Rattle.model.specs.Calls.{Step, opening, reception, tick, take, fullness, call}
+use Rattle.history.specs.Calls.{areaAfter, stepped, afterIn}
 use Rattle.history.specs.Past.{told, pastOf}
 use Rattle.history.specs.Fresh.{owner, fresh}
 use Rattle.history.specs.Statements.{keptBit, EveryBitFresh, PlanStays, CallsAlterTheirs}
@@ -35,27 +36,27 @@ unfolding replay
 begins plan a good reads begun t b h l = rw (reads .header .order) at (begun .payload t b h l)
 
 after-turns :
-    (plan : List ℕ) → GoodPlan plan → (t b : ℕ) → t < 256 → b < 64 → (c : Call) → Later c → (a : List ℕ) → Reads plan a
-    → keptBit plan (after c a) t b ≡ replayed plan t b (told (some plan) c a) (keptBit plan a t b)
-unfolding after told replay
+    (plan : List ℕ) → GoodPlan plan → (t b : ℕ) → t < 256 → b < 64 → (c : Step) → Later c → (a : List ℕ) → Reads plan a
+    → keptBit plan (stepped a c) t b ≡ replayed plan t b (told (some plan) c a) (keptBit plan a t b)
+unfolding areaAfter stepped told replay
 after-turns plan good t b frame small (opening p) later a reads = absurd later
-after-turns plan good t b frame small (reception n id payload) later a reads =
+after-turns plan good t b frame small (call (reception n id payload)) later a reads =
     reception-turns plan good t b frame small a reads n id payload
-after-turns plan good t b frame small (tick report) later a reads = tick-turns plan good t b frame small a report reads
-after-turns plan good t b frame small (take n) later a reads = taken-leaves _ t b frame small a n
-after-turns plan good t b frame small (fullness x) later a reads = refl
+after-turns plan good t b frame small (call (tick report)) later a reads = tick-turns plan good t b frame small a report reads
+after-turns plan good t b frame small (call (take n)) later a reads = taken-leaves _ t b frame small a n
+after-turns plan good t b frame small (call (fullness x)) later a reads = refl
 
 goes-on :
-    (plan : List ℕ) → GoodPlan plan → (log : List Event) (c : Call) → Later c → (a : List ℕ) → Reads plan a → Replayed plan log a
-    → Replayed plan (log ++ told (some plan) c a) (after c a)
+    (plan : List ℕ) → GoodPlan plan → (log : List Event) (c : Step) → Later c → (a : List ℕ) → Reads plan a → Replayed plan log a
+    → Replayed plan (log ++ told (some plan) c a) (stepped a c)
 goes-on plan good log c later a reads bits t b h l =
     after-turns plan good t b (omega (arith, good .counts .tx)) l c later a reads
     ∙ ap (replayed plan t b (told (some plan) c a)) (bits t b h l)
     ∙ sym (replay-append (orderIn (records plan)) (owner plan t b) log (told (some plan) c a) (initial plan t b))
 
 known :
-    (a : List ℕ) (calls : List Call) (plan : List ℕ) → pastOf calls a .plan ≡ some plan
-    → Held Replayed plan (pastOf calls a .log) (afterAll calls a)
+    (a : List ℕ) (calls : List Step) (plan : List ℕ) → pastOf calls a .plan ≡ some plan
+    → Held Replayed plan (pastOf calls a .log) (afterIn a calls)
 known = always Replayed begins goes-on
 
 -- ---- the theorems
@@ -69,4 +70,4 @@ every-bit-fresh a calls plan is t b h l = known a calls plan is .holds t b h l �
 
 pub calls-alter-theirs : CallsAlterTheirs
 calls-alter-theirs a calls plan is t b h l =
-    let k = known a calls plan is in only-theirs plan (k .good) (afterAll calls a) (k .reads) t b h l
+    let k = known a calls plan is in only-theirs plan (k .good) (afterIn a calls) (k .reads) t b h l

@@ -5,7 +5,7 @@ use Prim.Native.Nat.{ℕ, zero, suc, _+_, _<_, _≤_}
 use native.Mathlib.Omega.{arith}
 use lib.ListN.{length}
 use Rattle.records.specs.declared.record.RxNumber.{RxNumber}
-use Rattle.plan.specs.Rows.{rowsOf}
+use Rattle.plan.specs.Rows.{rowsOf, noRow}
 use Rattle.facts.specs.Good.{GoodPlan}
 use Rattle.area.specs.Layout.{rxTimer, counter, order, txCount, rxCount, claims}
 use Rattle.area.specs.Claims.{Event, expired, allDone}
@@ -17,18 +17,19 @@ use Rattle.reception.proofs.ReceptionLaws.{For, by-answer as by-received}
 use Rattle.ticking.specs.Tick.{expiredArea, rxTick, rxTicks, ticked, tickAnswer}
 use Rattle.ticking.proofs.TickLaws.{by-answer as by-ticked}
 use Rattle.tables.specs.Reads.{Reads}
-use Rattle.history.specs.Calls.{Call, opening, reception, tick, take, fullness, after}
+use Rattle.model.specs.Calls.{Step, opening, reception, tick, take, fullness, call}
+use Rattle.history.specs.Calls.{areaAfter, stepped}
 use Rattle.history.proofs.Aside.{aside-count, aside-timed, aside-long, aside-taken, aside-txTicks, aside-allDone}
-use Rattle.history.proofs.Rows.{row-small}
+use Rattle.facts.proofs.ByNumber.{row-small}
 use Rattle.history.proofs.Steady.{Steady, steady-aside, reads-steady}
 
 -- a call that is no opening
-abbrev pub Later : Call → Type 0
+abbrev pub Later : Step → Type 0
 Later (opening p) = ⊥
-Later (reception n id payload) = Unit {0}
-Later (tick report) = Unit {0}
-Later (take n) = Unit {0}
-Later (fullness t) = Unit {0}
+Later (call (reception n id payload)) = Unit {0}
+Later (call (tick report)) = Unit {0}
+Later (call (take n)) = Unit {0}
+Later (call (fullness t)) = Unit {0}
 
 module _ (plan : List ℕ) (good : GoodPlan plan) where
   few : (r : ℕ) → r < length (rowsOf plan) → r < 256
@@ -45,7 +46,7 @@ module _ (plan : List ℕ) (good : GoodPlan plan) where
       (a b : List ℕ) → Reads plan a → (e : Event) (r : ℕ) → r < length (rowsOf plan) → Same Steady b (allDone (order a) e (claims a r) b)
   steady-claims a b reads e r h =
       aside-allDone steady-aside (λ j l m p. p .high (omega arith) m) (order a) e (claims a r) b
-      (rw (reads .rx r h .claims) (row-small plan good r h))
+      (rw (reads .rx r h .claims) (row-small plan good noRow r h))
 
   pub steady-accepted : (a : List ℕ) → Reads plan a → (r : ℕ) (payload : List ℕ) → r < length (rowsOf plan) → Same Steady a (acceptedArea a r payload)
   unfolding acceptedArea
@@ -80,13 +81,13 @@ module _ (plan : List ℕ) (good : GoodPlan plan) where
       same-set _ _ (λ p. p .count refl)
       (same-then s (steady-rxTicks (counter a) (rxCount a) _ (reads-steady s reads) (omega (arith, reads .header .rx))))
 
-  pub steady-after : (c : Call) → Later c → (a : List ℕ) → Reads plan a → Same Steady a (after c a)
-  unfolding after
+  pub steady-after : (c : Step) → Later c → (a : List ℕ) → Reads plan a → Same Steady a (stepped a c)
+  unfolding areaAfter stepped
   steady-after (opening p) later a reads = absurd later
-  steady-after (reception n id payload) later a reads = steady-received a reads n id payload
-  steady-after (tick report) later a reads = by-ticked (Same Steady a) (tickAnswer a report) a (steady-ticked a reads) (same-refl a)
-  steady-after (take n) later a reads = aside-taken steady-aside a n
-  steady-after (fullness t) later a reads = same-refl a
+  steady-after (call (reception n id payload)) later a reads = steady-received a reads n id payload
+  steady-after (call (tick report)) later a reads = by-ticked (Same Steady a) (tickAnswer a report) a (steady-ticked a reads) (same-refl a)
+  steady-after (call (take n)) later a reads = aside-taken steady-aside a n
+  steady-after (call (fullness t)) later a reads = same-refl a
 
-  pub reads-after : (c : Call) → Later c → (a : List ℕ) → Reads plan a → Reads plan (after c a)
+  pub reads-after : (c : Step) → Later c → (a : List ℕ) → Reads plan a → Reads plan (stepped a c)
   reads-after c later a reads = reads-steady (steady-after c later a reads) reads

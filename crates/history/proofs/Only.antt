@@ -16,7 +16,7 @@ use Rattle.area.specs.Claims.{Event, accepted, expired}
 use Rattle.reception.proofs.ReceptionLaws.{by-answer}
 use Rattle.taking.specs.Taken.{takenArea}
 use Rattle.tables.specs.Reads.{Reads}
-use Rattle.history.specs.Calls.{after}
+use Rattle.history.specs.Calls.{areaAfter, stepped}
 use Rattle.history.specs.Past.{toldReport, toldTick}
 use Rattle.history.specs.Fresh.{Owner, nobody, signal, indicator, owner}
 use Rattle.history.specs.Statements.{keptBit, IsIndicator, OnlyTheirs}
@@ -52,7 +52,7 @@ taken-leaves o t b frame small a n = payload-bit o t b frame small (aside-taken 
 
 pub only-theirs :
     (plan : List ℕ) → GoodPlan plan → (a : List ℕ) → Reads plan a → (t b : ℕ) → t < length (txOf plan) → b < 64 → OnlyTheirs plan a t b
-unfolding after
+unfolding areaAfter stepped
 only-theirs plan good a reads t b h small =
     let frame : t < 256 = omega (arith, good .counts .tx) in
     record {

@@ -8,13 +8,14 @@ use lib.ListN.{length, getD}
 use borrow.Author.Tests.{eq-eqb, ne-eqb}
 use Rattle.base.specs.Pick.{pick}
 use Rattle.bits.specs.Payload.{bitAt}
-use Rattle.plan.specs.Rows.{Claim, Row, rowsOf, allClaims, claimsOf}
+use Rattle.plan.specs.Rows.{Claim, Row, rowsOf, allClaims, claimsOf, noRow}
 use Rattle.facts.specs.Good.{Each, GoodPlan}
 use Rattle.area.specs.Layout.{spot}
 use Rattle.area.specs.Claims.{Event, done, allDone}
-use Rattle.tables.specs.Reads.{noRow, rowAt}
+use Rattle.tables.specs.Reads.{rowAt}
 use Rattle.history.specs.Fresh.{owner}
-use Rattle.history.proofs.Rows.{claims-small, Of, Numbered, rows-numbered}
+use Rattle.facts.proofs.ByNumber.{claims-small}
+use Rattle.history.proofs.Rows.{Of, Numbered, rows-numbered}
 use Rattle.history.proofs.Replay.{rxOf, turned}
 use Rattle.history.proofs.Bits.{doneIf, allIf, by-owner}
 

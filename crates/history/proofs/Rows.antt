@@ -1,8 +1,8 @@
 -- A plan's rows: the claims of each are among the plan's and have its number, and a node and an ID name one of them. Assumes nothing.
 use mathlib.Core.Path.{_≡_, refl, ap}
-use mathlib.Core.List.{List, [], _∷_, _++_}
+use mathlib.Core.List.{List, [], _∷_}
 use mathlib.Core.Option.{Option, none, some}
-use Prim.Native.Nat.{ℕ, zero, suc, _+_, _<_}
+use Prim.Native.Nat.{ℕ, zero, suc, _<_}
 use native.Mathlib.Omega.{arith}
 use lib.ListN.{length, getD}
 use borrow.Author.Tests.{eq-eqb}
@@ -12,40 +12,11 @@ use Rattle.records.specs.declared.record.Record.{Record}
 use Rattle.records.specs.declared.record.Record.the-variants.{Head, Node, Tx, Rx, Signal, Destination, BadKind, Cut, End}
 use Rattle.records.specs.Records.{records}
 use Rattle.plan.specs.Progress.{keyOf}
-use Rattle.plan.specs.Rows.{Claim, Row, withFailure, claimsFrom, awaited, rowOf, rowsFrom, rowsOf, allClaims, claimsOf}
+use Rattle.plan.specs.Rows.{Claim, Row, withFailure, claimsFrom, awaited, rowOf, rowsFrom, rowsOf, noRow}
 use Rattle.facts.specs.Good.{Each, Rising, GoodPlan}
-use Rattle.facts.specs.Statements.{Small}
 use Rattle.facts.proofs.Lists.{each-at}
-use Rattle.facts.proofs.FactsGood.{facts-good}
-use Rattle.facts.proofs.Bounds.{good-bounds}
-use Rattle.tables.specs.Reads.{noRow, rowAt}
 use Rattle.tables.specs.Statements.{Names}
 use Rattle.history.specs.Past.{numberFor}
-
--- ---- what holds of each claim of the plan holds of each of a row
-
-each-left : (Q : Claim → Type 0) (xs ys : List Claim) → Each Q (xs ++ ys) → Each Q xs
-unfolding Each
-each-left Q [] ys h = tt
-each-left Q (x ∷ xs) ys h = (h .0, each-left Q xs ys (h .1))
-
-each-right : (Q : Claim → Type 0) (xs ys : List Claim) → Each Q (xs ++ ys) → Each Q ys
-unfolding Each
-each-right Q [] ys h = h
-each-right Q (x ∷ xs) ys h = each-right Q xs ys (h .1)
-
-pub row-each : (Q : Claim → Type 0) (rs : List Row) (d : Row) (r : ℕ) → r < length rs → Each Q (allClaims rs) → Each Q (getD rs r d .claims)
-unfolding allClaims
-row-each Q [] d r l h = absurd (omega arith)
-row-each Q (x ∷ rs) d zero l h = each-left Q (x .claims) (allClaims rs) h
-row-each Q (x ∷ rs) d (suc r) l h = row-each Q rs d r (omega arith) (each-right Q (x .claims) (allClaims rs) h)
-
-pub claims-small : (plan : List ℕ) → GoodPlan plan → Each Small (claimsOf plan)
-claims-small plan good = good-bounds plan _ _ _ (facts-good plan good) .claims
-
-pub row-small : (plan : List ℕ) → GoodPlan plan → (r : ℕ) → r < length (rowsOf plan) → Each Small (rowAt plan r .claims)
-unfolding claimsOf
-row-small plan good r l = row-each Small (rowsOf plan) noRow r l (claims-small plan good)
 
 -- ---- numbers
 

@@ -1,35 +1,45 @@
--- The public calls, and what each leaves of the area. A take's payload is read with `taking::payload`, which changes nothing.
+-- The openings and calls on an area of bytes: what each answers, and what it leaves of the area. A take's payload is read with `taking::payload`,
+-- which changes nothing.
 use Prim.Native.Nat.{ℕ}
 use mathlib.Core.List.{List, [], _∷_}
 use lib.ListN.{length}
 use Rattle.plan.specs.Check.{checkPlan}
 use Rattle.answers.specs.declared.Opened.{Opened}
 use Rattle.opening.specs.Opened.{openedAnswer, openedArea}
-use Rattle.reception.specs.Reception.{receivedArea}
-use Rattle.ticking.specs.Tick.{tickAnswer, tickedArea}
-use Rattle.taking.specs.Taken.{takenArea}
-
--- an opening with a plan; a reception of node, ID and payload; a tick with the report that is lent to it; a take on a node; the fullness of a Tx
--- frame
-pub data Call : Type 0 where
-  opening : List ℕ → Call
-  reception : ℕ → ℕ → List ℕ → Call
-  tick : List ℕ → Call
-  take : ℕ → Call
-  fullness : ℕ → Call
+use Rattle.reception.specs.Reception.{receivedAnswer, receivedArea}
+use Rattle.ticking.specs.Tick.{tickAnswer, tickedArea, tickedReport}
+use Rattle.taking.specs.Taken.{takenAnswer, takenArea, takenPayload, fullnessAnswer}
+use Rattle.model.specs.Calls.{Call, reception, tick, take, fullness, Answer, received, ticked, taken, full, Step, opening, call, Reply, opened, answered}
 
 abbrev pub openAnswer : List ℕ → List ℕ → Opened
 openAnswer plan a = openedAnswer (checkPlan plan) (length a)
 
--- the area after a call
-unfoldable pub after : Call → List ℕ → List ℕ
-after (opening plan) a = openedArea (openAnswer plan a) plan a
-after (reception n id payload) a = receivedArea a n id payload
-after (tick report) a = tickedArea (tickAnswer a report) a
-after (take n) a = takenArea a n
-after (fullness t) a = a
+unfoldable pub answerIn : List ℕ → Call → Answer
+answerIn a (reception n id payload) = received (receivedAnswer a n id payload)
+answerIn a (tick report) = ticked (tickAnswer a report) (tickedReport (tickAnswer a report) a report)
+answerIn a (take n) = taken (takenAnswer a n) (takenPayload (takenArea a n) (takenAnswer a n))
+answerIn a (fullness t) = full (fullnessAnswer a t)
 
--- after some calls, the first of them first
-unfoldable pub afterAll : List Call → List ℕ → List ℕ
-afterAll [] a = a
-afterAll (c ∷ cs) a = afterAll cs (after c a)
+unfoldable pub replyIn : List ℕ → Step → Reply
+replyIn a (opening plan) = opened (openAnswer plan a)
+replyIn a (call c) = answered (answerIn a c)
+
+-- the area after a call, and after an opening or a call
+unfoldable pub areaAfter : List ℕ → Call → List ℕ
+areaAfter a (reception n id payload) = receivedArea a n id payload
+areaAfter a (tick report) = tickedArea (tickAnswer a report) a
+areaAfter a (take n) = takenArea a n
+areaAfter a (fullness t) = a
+
+unfoldable pub stepped : List ℕ → Step → List ℕ
+stepped a (opening plan) = openedArea (openAnswer plan a) plan a
+stepped a (call c) = areaAfter a c
+
+-- over some of them, the first of them first
+unfoldable pub repliesIn : List ℕ → List Step → List Reply
+repliesIn a [] = []
+repliesIn a (c ∷ cs) = replyIn a c ∷ repliesIn (stepped a c) cs
+
+unfoldable pub afterIn : List ℕ → List Step → List ℕ
+afterIn a [] = a
+afterIn a (c ∷ cs) = afterIn (stepped a c) cs

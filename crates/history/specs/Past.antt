@@ -16,7 +16,8 @@ use Rattle.answers.specs.declared.Ticked.{Ticked}
 use Rattle.answers.specs.declared.Ticked.the-variants as ticked
 use Rattle.reception.specs.Reception.{receivedAnswer}
 use Rattle.ticking.specs.Tick.{tickAnswer, tickedReport}
-use Rattle.history.specs.Calls.{Call, opening, reception, tick, take as taking, fullness, openAnswer, after}
+use Rattle.model.specs.Calls.{Step, opening, reception, tick, take as taking, fullness, call}
+use Rattle.history.specs.Calls.{openAnswer, areaAfter, stepped}
 
 pub record Past : Type 0 where
   pub plan : Option (List ℕ)
@@ -55,26 +56,26 @@ openedPast (opened.Open nodes tx rx) plan past = record { plan = some plan; log 
 openedPast (opened.Refused why number) plan past = past
 
 -- nothing is told before an opening
-unfoldable pub told : Option (List ℕ) → Call → List ℕ → List Event
+unfoldable pub told : Option (List ℕ) → Step → List ℕ → List Event
 told none c a = []
 told (some plan) (opening p) a = []
-told (some plan) (reception n id payload) a = toldReception (receivedAnswer a n id payload) (numberFor n id (rowsOf plan)) payload
-told (some plan) (tick report) a = toldTick (tickAnswer a report) (length (rowsOf plan)) (tickedReport (tickAnswer a report) a report)
-told (some plan) (taking n) a = []
-told (some plan) (fullness t) a = []
+told (some plan) (call (reception n id payload)) a = toldReception (receivedAnswer a n id payload) (numberFor n id (rowsOf plan)) payload
+told (some plan) (call (tick report)) a = toldTick (tickAnswer a report) (length (rowsOf plan)) (tickedReport (tickAnswer a report) a report)
+told (some plan) (call (taking n)) a = []
+told (some plan) (call (fullness t)) a = []
 
-unfoldable pub pastAfter : Past → Call → List ℕ → Past
+unfoldable pub pastAfter : Past → Step → List ℕ → Past
 pastAfter past (opening plan) a = openedPast (openAnswer plan a) plan past
-pastAfter past (reception n id payload) a = record { plan = past .plan; log = past .log ++ told (past .plan) (reception n id payload) a }
-pastAfter past (tick report) a = record { plan = past .plan; log = past .log ++ told (past .plan) (tick report) a }
-pastAfter past (taking n) a = past
-pastAfter past (fullness t) a = past
+pastAfter past (call (reception n id payload)) a = record { plan = past .plan; log = past .log ++ told (past .plan) (call (reception n id payload)) a }
+pastAfter past (call (tick report)) a = record { plan = past .plan; log = past .log ++ told (past .plan) (call (tick report)) a }
+pastAfter past (call (taking n)) a = past
+pastAfter past (call (fullness t)) a = past
 
 -- after some calls
-unfoldable pub pastAfterAll : Past → List Call → List ℕ → Past
+unfoldable pub pastAfterAll : Past → List Step → List ℕ → Past
 pastAfterAll past [] a = past
-pastAfterAll past (c ∷ cs) a = pastAfterAll (pastAfter past c a) cs (after c a)
+pastAfterAll past (c ∷ cs) a = pastAfterAll (pastAfter past c a) cs (stepped a c)
 
 -- since the caller began
-abbrev pub pastOf : List Call → List ℕ → Past
+abbrev pub pastOf : List Step → List ℕ → Past
 pastOf cs a = pastAfterAll unopened cs a

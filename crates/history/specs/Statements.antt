@@ -11,7 +11,8 @@ use Rattle.plan.specs.Rows.{txOf, orderIn}
 use Rattle.area.specs.Layout.{spot}
 use Rattle.tables.specs.Statements.{Names}
 use Rattle.tables.specs.Reads.{Reads}
-use Rattle.history.specs.Calls.{Call, reception, tick, take, fullness, after, afterAll}
+use Rattle.model.specs.Calls.{Step, reception, tick, take, fullness, call}
+use Rattle.history.specs.Calls.{areaAfter, stepped, afterIn}
 use Rattle.history.specs.Past.{pastOf}
 use Rattle.history.specs.Fresh.{Owner, nobody, signal, indicator, owner, fresh}
 
@@ -21,12 +22,12 @@ keptBit plan a t b = bitAt (orderIn (records plan)) a (spot t b)
 
 abbrev pub EveryBitFresh : Type 0
 EveryBitFresh =
-    (a : List ℕ) (calls : List Call) (plan : List ℕ) → pastOf calls a .plan ≡ some plan → (t b : ℕ) → t < length (txOf plan) → b < 64
-    → keptBit plan (afterAll calls a) t b ≡ fresh plan (pastOf calls a .log) t b
+    (a : List ℕ) (calls : List Step) (plan : List ℕ) → pastOf calls a .plan ≡ some plan → (t b : ℕ) → t < length (txOf plan) → b < 64
+    → keptBit plan (afterIn a calls) t b ≡ fresh plan (pastOf calls a .log) t b
 
 -- the area still holds the plan last opened: every table says what the plan says
 abbrev pub PlanStays : Type 0
-PlanStays = (a : List ℕ) (calls : List Call) (plan : List ℕ) → pastOf calls a .plan ≡ some plan → Reads plan (afterAll calls a)
+PlanStays = (a : List ℕ) (calls : List Step) (plan : List ℕ) → pastOf calls a .plan ≡ some plan → Reads plan (afterIn a calls)
 
 -- ---- "A reception alters only bits owned by its frame, a tick only failure bits, a take none."
 
@@ -44,12 +45,12 @@ IsIndicator (indicator r) = Unit {0}
 -- of an area that some calls left, with the plan last opened there
 pub record OnlyTheirs (plan a : List ℕ) (t b : ℕ) : Type 0 where
   pub reception : (n id : ℕ) (payload : List ℕ) → ((r : ℕ) → Names plan n id r → OwnedBy r (owner plan t b) → ⊥)
-      → keptBit plan (after (reception n id payload) a) t b ≡ keptBit plan a t b
-  pub tick : (report : List ℕ) → (IsIndicator (owner plan t b) → ⊥) → keptBit plan (after (tick report) a) t b ≡ keptBit plan a t b
-  pub take : (n : ℕ) → keptBit plan (after (take n) a) t b ≡ keptBit plan a t b
-  pub fullness : (x : ℕ) → keptBit plan (after (fullness x) a) t b ≡ keptBit plan a t b
+      → keptBit plan (stepped a (call (reception n id payload))) t b ≡ keptBit plan a t b
+  pub tick : (report : List ℕ) → (IsIndicator (owner plan t b) → ⊥) → keptBit plan (stepped a (call (tick report))) t b ≡ keptBit plan a t b
+  pub take : (n : ℕ) → keptBit plan (stepped a (call (take n))) t b ≡ keptBit plan a t b
+  pub fullness : (x : ℕ) → keptBit plan (stepped a (call (fullness x))) t b ≡ keptBit plan a t b
 
 abbrev pub CallsAlterTheirs : Type 0
 CallsAlterTheirs =
-    (a : List ℕ) (calls : List Call) (plan : List ℕ) → pastOf calls a .plan ≡ some plan → (t b : ℕ) → t < length (txOf plan) → b < 64
-    → OnlyTheirs plan (afterAll calls a) t b
+    (a : List ℕ) (calls : List Step) (plan : List ℕ) → pastOf calls a .plan ≡ some plan → (t b : ℕ) → t < length (txOf plan) → b < 64
+    → OnlyTheirs plan (afterIn a calls) t b

@@ -8,7 +8,7 @@ use Rattle.records.specs.declared.record.TxFrame.{TxFrame}
 use Rattle.records.specs.declared.record.RxFrame.{RxFrame}
 use Rattle.records.specs.declared.record.Record.{Record}
 use Rattle.records.specs.declared.record.Record.the-variants.{Head, Node, Tx, Rx, Signal, Destination, BadKind, Cut, End}
-use Rattle.records.specs.Records.{records}
+use Rattle.records.specs.Records.{records, noRx}
 
 -- where the bits of a claim come from: the received payload from a position on, as many as a size says; or the frame's failure
 pub data Source : Type 0 where
@@ -49,6 +49,10 @@ pub record Row : Type 0 where
   pub number : ℕ
   pub frame : RxFrame
   pub claims : List Claim
+
+-- a number that is no row's has this one
+abbrev pub noRow : Row
+noRow = record { number = 0; frame = noRx; claims = [] }
 
 -- the failure position, where the indicator is enabled
 unfoldable pub awaited : RxFrame → Option ℕ

@@ -130,6 +130,27 @@ recordsAt plan at = recordsFrom (length plan - at) plan at
 unfoldable pub records : List ℕ → List Record
 records plan = recordsAt plan 0
 
+-- the eight bytes of a payload, as a list
+abbrev pub eightBytes : Eight → List ℕ
+eightBytes b = b .0 ∷ b .1 ∷ b .2 ∷ b .3 ∷ b .4 ∷ b .5 ∷ b .6 ∷ b .7 ∷ []
+
+-- a number or a place that is no frame's has these
+abbrev pub noTx : TxFrame
+noTx =
+    record {
+      node = 0;
+      id = 0;
+      size = 0;
+      prescaler = 0;
+      reload = 0;
+      initial = 0;
+      flags = 0;
+      payload = record { 0 = 0; 1 = 0; 2 = 0; 3 = 0; 4 = 0; 5 = 0; 6 = 0; 7 = 0 };
+    }
+
+abbrev pub noRx : RxFrame
+noRx = record { node = 0; id = 0; size = 0; prescaler = 0; reload = 0; initial = 0; enable = 0; position = 0; long = 0 }
+
 -- what a reader knows of the record that it met: it lies within the plan, and it is the end exactly at the plan's end
 pub record Within (plan : List ℕ) (at : ℕ) (r : Record) : Type 0 where
   pub room : at ≤ length plan → at + sizeOf r ≤ length plan

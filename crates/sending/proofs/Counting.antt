@@ -8,10 +8,10 @@ use native.Mathlib.Omega.{arith}
 use lib.Dec.{ltb, eqb}
 use lib.ListN.{length, getD}
 use borrow.Author.Tests.{eq-eqb, ltb-true, ltb-false}
+use Rattle.records.specs.Records.{noTx}
 use Rattle.base.specs.Pick.{pick}
 use Rattle.base.proofs.Picks.{picks, cases}
 use Rattle.records.specs.declared.record.TxFrame.{TxFrame}
-use Rattle.area.specs.Layout.{noTx}
 use Rattle.tables.specs.Reads.{framesOn}
 
 -- ---- the places below m at which f is 0

@@ -1,13 +1,10 @@
+pub mod Queues
 pub mod Counting
 pub mod Plans
 pub mod Holding
 pub mod Lines
 pub mod Moves
 pub mod Scheduling
-pub mod Steps
-pub mod Receptions
-pub mod Ticks
 pub mod Takes
-pub mod Walk
 pub mod Handing
-pub mod Rules
+pub mod Begin

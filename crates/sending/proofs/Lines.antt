@@ -14,7 +14,7 @@ use Rattle.area.specs.Queue.{endsOf, queueOf}
 use Rattle.area.proofs.Kept.{Kept, room-kept}
 use Rattle.area.proofs.QueueLaws.{length-queueOf}
 use Rattle.tables.specs.Reads.{txAt, framesOn}
-use Rattle.sending.specs.Queues.{waiter, Queue}
+use Rattle.sending.proofs.Queues.{waiter, Queue}
 use Rattle.sending.proofs.Counting.{no-more}
 use Rattle.sending.proofs.Holding.{Holding}
 

@@ -11,8 +11,8 @@ use Rattle.area.specs.Queue.{endsOf, queueOf}
 use Rattle.area.proofs.Frame.{Same, same-two, same-fewer}
 use Rattle.area.proofs.Kept.{Kept, kept-refl, kept-then}
 use Rattle.area.proofs.QueueLaws.{queue-same}
-use Rattle.sending.specs.Queues.{waiter, Queues, Stands}
-use Rattle.sending.specs.Statements.{Grows}
+use Rattle.sending.proofs.Queues.{waiter, Queues, Stands}
+use Rattle.sending.proofs.Queues.{Grows}
 use Rattle.sending.proofs.Holding.{Holding, holding-kept}
 use Rattle.sending.proofs.Lines.{queue-stays}
 

@@ -1,27 +1,20 @@
 -- What a good plan says of its Tx frames and of its claims, by number. Assumes nothing.
 use mathlib.Core.Path.{_≡_}
-use mathlib.Core.Bool.{true}
 use mathlib.Core.List.{List, [], _∷_}
 use Prim.Native.Nat.{ℕ, _+_, _≤_, _<_}
 use native.Mathlib.Omega.{arith}
 use lib.ListN.{length}
-use Rattle.records.specs.declared.record.Record.{Record}
-use Rattle.records.specs.declared.record.Record.the-variants.{Head, Node, Tx, Rx, Signal, Destination, BadKind, Cut, End}
-use Rattle.records.specs.Records.{records}
+use Rattle.records.specs.Records.{noTx}
+use Rattle.records.specs.declared.record.Record.the-variants.{Tx}
 use Rattle.plan.specs.declared.verdict.Verdict.the-variants.{Good}
 use Rattle.plan.specs.Check.{checkPlan}
-use Rattle.plan.specs.Tests.{inRange}
-use Rattle.plan.specs.Rows.{widthOf, Claim, rowsOf, claimsOf, txFrames, txOf, nodesIn}
-use Rattle.plan.proofs.TestLaws.{TxRanges, tx-ranges}
+use Rattle.plan.specs.Rows.{widthOf, Claim, rowsOf, claimsOf, txOf, noRow}
 use Rattle.facts.specs.Good.{Each, Fits, sizesOf}
 use Rattle.facts.specs.Statements.{Small}
-use Rattle.facts.proofs.Lists.{each-at}
 use Rattle.facts.proofs.Sizes.{sizes-length}
 use Rattle.facts.proofs.GoodFacts.{good-facts}
-use Rattle.facts.proofs.Bounds.{good-bounds}
-use Rattle.area.specs.Layout.{noTx}
-use Rattle.tables.specs.Reads.{txAt, noRow, rowAt}
-use Rattle.history.proofs.Rows.{row-each}
+use Rattle.facts.proofs.ByNumber.{frame-ranges, row-each, claims-small}
+use Rattle.tables.specs.Reads.{txAt, rowAt}
 
 -- a claim lies in the 64 bits of a Tx frame of the plan
 pub record Lies (plan : List ℕ) (c : Claim) : Type 0 where
@@ -34,21 +27,6 @@ pub record Sendable (plan : List ℕ) : Type 0 where
   pub node : (t : ℕ) → t < length (txOf plan) → txAt plan t .node < 16
   pub size : (t : ℕ) → t < length (txOf plan) → txAt plan t .size ≤ 8
   pub claims : (r : ℕ) → r < length (rowsOf plan) → Each (Lies plan) (rowAt plan r .claims)
-
--- ---- the frames
-
-ranges : (n : ℕ) (rs : List Record) → Each (λ r. inRange n r ≡ true) rs → Each (TxRanges n) (txFrames rs)
-unfolding Each txFrames inRange
-ranges n [] h = tt
-ranges n (Tx x ∷ rs) h = (tx-ranges n x (h .0), ranges n rs (h .1))
-ranges n (Head order ∷ rs) h = ranges n rs (h .1)
-ranges n (Node type ∷ rs) h = ranges n rs (h .1)
-ranges n (Rx x ∷ rs) h = ranges n rs (h .1)
-ranges n (Signal p s ∷ rs) h = ranges n rs (h .1)
-ranges n (Destination d q ∷ rs) h = ranges n rs (h .1)
-ranges n (BadKind ∷ rs) h = ranges n rs (h .1)
-ranges n (Cut kind ∷ rs) h = ranges n rs (h .1)
-ranges n (End ∷ rs) h = ranges n rs (h .1)
 
 -- ---- the claims
 
@@ -64,12 +42,11 @@ pub sendable : (plan : List ℕ) (n t r : ℕ) → checkPlan plan ≡ Good n t r
 unfolding txOf claimsOf
 sendable plan n t r e =
     let f = good-facts plan n t r e .0 in
-    let x = ranges (nodesIn (records plan)) (records plan) (f .ranges) in
-    let b = good-bounds plan n t r e .claims in
+    let b = claims-small plan f in
     record {
       tx = f .counts .tx;
       rx = f .counts .rx;
-      node = λ t h. omega (arith, each-at _ _ noTx t h x .node, f .counts .nodes);
-      size = λ t h. each-at _ _ noTx t h x .size;
+      node = λ t h. omega (arith, frame-ranges plan f noTx t h .node, f .counts .nodes);
+      size = λ t h. frame-ranges plan f noTx t h .size;
       claims = λ r h. row-each (Lies plan) (rowsOf plan) noRow r h (each-both (lies plan) (claimsOf plan) (f .fits) b);
     }

@@ -19,8 +19,8 @@ use Rattle.area.proofs.Kept.{Kept, kept-scheduled, room-kept}
 use Rattle.area.proofs.QueueLaws.{length-queueOf, scheduled-waiting, queue-scheduled}
 use Rattle.area.proofs.QueueLaws.{ends-queued, queue-queued, ends-queued-other, queue-queued-other}
 use Rattle.tables.specs.Reads.{txAt}
-use Rattle.sending.specs.Queues.{waiter, Queue, Stands}
-use Rattle.sending.specs.Statements.{Grows}
+use Rattle.sending.proofs.Queues.{waiter, Queue, Stands}
+use Rattle.sending.proofs.Queues.{Grows}
 use Rattle.sending.proofs.Holding.{holding-kept}
 use Rattle.sending.proofs.Lines.{line-of, line-marked, line-joined, queue-of, queue-stays}
 use Rattle.sending.proofs.Moves.{Ready, Moves, first-same, grows-same, grows-stands, moves-refl}

@@ -20,7 +20,7 @@ use Rattle.area.proofs.Kept.{Kept, kept-dequeued}
 use Rattle.area.proofs.QueueLaws.{ends-dequeued-other, queue-dequeued-other, queue-dequeued, sound-dequeued}
 use Rattle.taking.specs.Taken.{oldestArea, takenArea}
 use Rattle.tables.specs.Reads.{txAt}
-use Rattle.sending.specs.Queues.{waiter, Queue, Queues, Stands}
+use Rattle.sending.proofs.Queues.{waiter, Queue, Queues, Stands}
 use Rattle.sending.proofs.Holding.{Holding, holding-kept}
 use Rattle.sending.proofs.Lines.{Line, line-of, line-marked, line-left, queue-of, queue-stays}
 use Rattle.sending.proofs.Moves.{Ready, grows-same, grows-stands}

@@ -9,11 +9,11 @@ use Rattle.records.specs.declared.record.Record.{Record}
 use Rattle.records.specs.Records.{records}
 use Rattle.plan.specs.Progress.{keyOf}
 use Rattle.plan.specs.Tests.{inRange}
-use Rattle.plan.specs.Rows.{Row, rowOf, rowsFrom, rowsOf, nodesIn}
+use Rattle.plan.specs.Rows.{Row, rowOf, rowsFrom, rowsOf, nodesIn, noRow}
 use Rattle.plan.proofs.TestLaws.{RxRanges, rx-ranges}
 use Rattle.facts.specs.Good.{Each, Rising, GoodPlan}
 use Rattle.facts.proofs.Lists.{each-at}
-use Rattle.tables.specs.Reads.{noRow, rowAt}
+use Rattle.tables.specs.Reads.{rowAt}
 use Rattle.tables.proofs.RxSide.{Kind, frame, other, kind}
 
 abbrev Ranged : ℕ → List Row → Type 0

@@ -15,12 +15,12 @@ use Rattle.records.specs.declared.record.Record.the-variants.{Rx}
 use Rattle.records.specs.Records.{recordAt, sizeOf, recordsAt, records}
 use Rattle.records.proofs.RecordLaws.{records-end, records-step}
 use Rattle.plan.specs.Check.{setsOf}
-use Rattle.plan.specs.Rows.{rowOf, rowsFrom, rowsOf}
+use Rattle.plan.specs.Rows.{rowOf, rowsFrom, rowsOf, noRow}
 use Rattle.area.proofs.Frame.{Same, same-two}
 use Rattle.opening.specs.Opened.{blank, nextRx, withRx, withRecord, withRecords, opened}
 use Rattle.opening.proofs.BlankLaws.{blank-length, blank-zero}
 use Rattle.opening.proofs.Counted.{counts}
-use Rattle.tables.specs.Reads.{noRow, rowAt}
+use Rattle.tables.specs.Reads.{rowAt}
 use Rattle.tables.proofs.RxSide.{rx-length, RxSide, leaves-last, Kind, frame, other, kind}
 
 -- Rx frame number k, met at a place of the plan when the area is a

@@ -12,12 +12,11 @@ use Rattle.records.specs.declared.record.TxFrame.{TxFrame}
 use Rattle.records.specs.declared.record.RxFrame.{RxFrame}
 use Rattle.records.specs.declared.record.Record.{Record}
 use Rattle.records.specs.declared.record.Record.the-variants.{Head, Node, Tx, Rx, Signal, Destination, BadKind, Cut, End}
-use Rattle.records.specs.Records.{sizeOf}
+use Rattle.records.specs.Records.{sizeOf, eightBytes}
 use Rattle.plan.specs.Rows.{txFrames}
 use Rattle.area.specs.Layout.{queue, txTimer, txPlace, payload, txMask}
 use Rattle.area.proofs.Frame.{Same, same-refl, same-then, same-set, same-pick}
 use Rattle.opening.specs.Opened.{nextTx, withTxTimer, withPayload, withFrame, withTx, withRxTimer, withRow, withNodeRow, withRx, withRecord, withRings, withFullness}
-use Rattle.tables.specs.Reads.{eightBytes}
 use Rattle.tables.proofs.Stored.{None, put, put-two, stored, same-stored}
 
 -- ---- the parts of a Tx frame of number t

@@ -8,7 +8,7 @@ use Rattle.base.specs.Numbers.{byteAt, twoAt}
 use Rattle.bits.specs.Payload.{digitOf, bitAt}
 use Rattle.bits.specs.Owners.{owners}
 use Rattle.bits.proofs.OwnerLaws.{owners-le}
-use Rattle.records.specs.Records.{records}
+use Rattle.records.specs.Records.{records, eightBytes}
 use Rattle.plan.specs.declared.verdict.Verdict.the-variants.{Good}
 use Rattle.plan.specs.Check.{checkPlan, setsOf}
 use Rattle.plan.specs.Rows.{txOf, nodesIn, orderIn}
@@ -164,6 +164,9 @@ module _ (plan a : List ℕ) (n t r : ℕ) (good : checkPlan plan ≡ Good n t r
   opened-payload k b h l =
       let e : spot k b / 8 ≡ payload k + b / 8 = omega arith in
       rw (order-is, digit-spot (orderIn (records plan)) k b, e, puts k h .payload (b / 8) (omega arith))
+
+  pub opened-bytes : (k i : ℕ) → k < length (txOf plan) → i < 8 → byteAt (opened plan a) (payload k + i) ≡ getD (eightBytes (txAt plan k .payload)) i 0
+  opened-bytes k i h l = puts k h .payload i l
 
   pub opened-tx-timer : (k : ℕ) → k < length (txOf plan) → byteAt (opened plan a) (txTimer k + 1) ≡ txAt plan k .initial
   opened-tx-timer k h = puts k h .initial

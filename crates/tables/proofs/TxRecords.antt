@@ -12,14 +12,13 @@ use Rattle.clock.specs.Counter.{maskOf}
 use Rattle.records.specs.declared.record.TxFrame.{TxFrame}
 use Rattle.records.specs.declared.record.Record.{Record}
 use Rattle.records.specs.declared.record.Record.the-variants.{Tx}
-use Rattle.records.specs.Records.{sizeOf, recordAt, recordsAt}
+use Rattle.records.specs.Records.{sizeOf, recordAt, recordsAt, eightBytes, noTx}
 use Rattle.records.proofs.RecordLaws.{records-step, records-end}
 use Rattle.plan.specs.Rows.{txFrames}
-use Rattle.area.specs.Layout.{txTimer, txPlace, payload, txMask, asTx, noTx}
+use Rattle.area.specs.Layout.{txTimer, txPlace, payload, txMask, asTx}
 use Rattle.area.proofs.Frame.{Same, same-refl, same-then, same-set, same-setTwo, same-two}
 use Rattle.opening.specs.Opened.{nextTx, withTxTimer, withPayload, withTx, withRecord, withRecords}
 use Rattle.opening.proofs.BlankLaws.{two-set}
-use Rattle.tables.specs.Reads.{eightBytes}
 use Rattle.tables.proofs.Stored.{None, stored, same-stored, stored-at}
 use Rattle.tables.proofs.Spared.{payload-stored, timer-stored, same-payload, same-timer, same-frame, Other, along}
 use Rattle.tables.proofs.TxLeft.{Left, next-tx, next-other, left-records}

@@ -11,12 +11,11 @@ use Rattle.base.specs.Numbers.{byteAt, twoAt}
 use Rattle.bits.specs.Payload.{bitAt}
 use Rattle.bits.specs.Owners.{owners}
 use Rattle.clock.specs.Counter.{maskOf}
-use Rattle.records.specs.declared.record.Eight.{Eight}
 use Rattle.records.specs.declared.record.TxFrame.{TxFrame}
-use Rattle.records.specs.Records.{records}
+use Rattle.records.specs.Records.{records, noTx, eightBytes}
 use Rattle.plan.specs.Check.{setsOf}
-use Rattle.plan.specs.Rows.{Row, rowsOf, txOf, nodesIn, orderIn}
-use Rattle.area.specs.Layout.{txTimer, rxTimer, long, waits, full, row, txMask, rxMask, spot, marked, counter, order, nodeCount, txCount, rxCount, planOf, noTx, noRx, txFrame, rxFrame, claims}
+use Rattle.plan.specs.Rows.{Row, noRow, rowsOf, txOf, nodesIn, orderIn}
+use Rattle.area.specs.Layout.{txTimer, rxTimer, long, waits, full, row, txMask, rxMask, spot, marked, counter, order, nodeCount, txCount, rxCount, planOf, txFrame, rxFrame, claims}
 use Rattle.area.specs.Queue.{endsOf, Apart}
 use Rattle.reception.specs.Lookup.{firstRow, rowCount}
 
@@ -24,9 +23,6 @@ use Rattle.reception.specs.Lookup.{firstRow, rowCount}
 
 abbrev pub txAt : List ℕ → ℕ → TxFrame
 txAt plan t = getD (txOf plan) t noTx
-
-abbrev pub noRow : Row
-noRow = record { number = 0; frame = noRx; claims = [] }
 
 abbrev pub rowAt : List ℕ → ℕ → Row
 rowAt plan r = getD (rowsOf plan) r noRow
@@ -82,9 +78,6 @@ pub record Reads (plan a : List ℕ) : Type 0 where
   pub rings : (n : ℕ) → n < 16 → Rings plan a n
 
 -- ---- "payloads and timers initial, long counters at the long count, queues empty, tick counter 0"
-
-abbrev pub eightBytes : Eight → List ℕ
-eightBytes b = b .0 ∷ b .1 ∷ b .2 ∷ b .3 ∷ b .4 ∷ b .5 ∷ b .6 ∷ b .7 ∷ []
 
 -- "the plan's initial bit"
 unfoldable pub initial : List ℕ → ℕ → ℕ → ℕ

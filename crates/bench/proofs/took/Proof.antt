@@ -1,4 +1,4 @@
--- `bench::took` meets its contract: the payload that it shows is short. Assumes nothing.
+-- `bench::took` meets its contract: the payload that it shows is short, and is the one that the take left. Assumes nothing.
 use Prim.Native.Nat.{ℕ, _≤_}
 use mathlib.Core.List.{List}
 use native.Mathlib.Omega.{arith}
@@ -9,6 +9,7 @@ use Rattle.base.proofs.Picks.{both}
 use Rattle.answers.specs.declared.Taken.{Taken}
 use Rattle.answers.specs.declared.Taken.the-variants.{Nothing, Frame, Refused}
 use Rattle.taking.specs.Taken.{keptPart, takenPayload}
+use Rattle.output.specs.Output.{takenText}
 use Rattle.bench.proofs.took.Statement.{statement}
 use Rattle.bench.proofs.took.Tie as tie
 
@@ -24,7 +25,14 @@ short a (Frame t id size waiting) =
 take-line-requires : tie.Need-take-line-requires
 take-line-requires c κs = (omega arith, rw (c .before .payload .ensures) (short _ _))
 
+returns : tie.Need-returns
+unfolding takenText
+returns c =
+    let shown = c .before .before .before .before in
+    let call = shown .before .before .before .before .take .ensures in
+    (rw (← (call .1), ← (call .0), ← (shown .payload .ensures)) (c .before .before .take-line .ensures), call .1)
+
 pub took-spec : {M : Type 1} → statement M
 took-spec =
     tie.close
-    (tie.spec (λ c κs. search needs) (λ c κs. search needs) take-line-requires (λ c. search needs) (λ c. search needs) (λ c. search needs))
+    (tie.spec (λ c κs. search needs) (λ c κs. search needs) take-line-requires (λ c. search needs) (λ c. search needs) returns)

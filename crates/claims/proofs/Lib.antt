@@ -1,0 +1,13 @@
+pub mod OfKind
+pub mod Splits
+pub mod Numbered
+pub mod Copies
+pub mod Claims
+pub mod One
+pub mod Rows
+pub mod Lawful
+pub mod All
+pub mod Owned
+pub mod Owners
+pub mod Said
+pub mod Examples

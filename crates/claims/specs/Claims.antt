@@ -1,0 +1,95 @@
+-- The frames, the rows and the claims of a plan in words of its records, split where one stands: a second text beside the recursion of `Rows`.
+use mathlib.Core.Path.{_≡_}
+use mathlib.Core.Logic.{_≢_, _⊎_}
+use mathlib.Core.List.{List, _∷_, _++_}
+use Prim.Native.Nat.{ℕ, _+_, _<_}
+use lib.ListN.{length, getD}
+use Rattle.records.specs.declared.record.TxNumber.{TxNumber}
+use Rattle.records.specs.declared.record.TxFrame.{TxFrame}
+use Rattle.records.specs.declared.record.RxFrame.{RxFrame}
+use Rattle.records.specs.declared.record.Record.{Record}
+use Rattle.records.specs.declared.record.Record.the-variants.{Tx, Rx, Signal, Destination, Cut}
+use Rattle.plan.specs.Rows.{copy, failure, Claim, Row}
+use Rattle.facts.specs.Good.{Each, countOf}
+
+-- ---- records
+
+-- a record that does not run past the plan's end; of one that does there is only the kind, which `countOf` counts
+abbrev pub Whole : Record → Type 0
+Whole r = (kind : ℕ) → r ≢ Cut kind
+
+abbrev pub IsSignal : Record → Type 0
+IsSignal r = (p : ℕ) × (s : ℕ) × (r ≡ Signal p s)
+
+abbrev pub IsDestination : Record → Type 0
+IsDestination r = (t : TxNumber) × (q : ℕ) × (r ≡ Destination t q)
+
+-- what an Rx frame may have of its own, and the records past that: none, or a first one that is no such record
+abbrev pub Own : Record → Type 0
+Own r = IsSignal r ⊎ IsDestination r
+
+abbrev pub Beyond : List Record → Type 0
+Beyond rest = (r : Record) (rs : List Record) → rest ≡ r ∷ rs → Own r → ⊥
+
+-- ---- "Nodes, Tx and Rx frames are numbered from 0.": the number of a frame is how many of its kind stand before it
+
+pub record FramesOf (rs : List Record) (frames : List TxFrame) : Type 0 where
+  pub many : length frames ≡ countOf 3 rs
+  pub each : (front rest : List Record) (x : TxFrame) → rs ≡ front ++ Tx x ∷ rest → (d : TxFrame) → getD frames (countOf 3 front) d ≡ x
+
+-- ---- the claims of an Rx frame with its number, by its own records
+
+-- "signals are copied in plan order, each to its destinations in order": after the `first` claims there is one for each destination, of the last
+-- signal before it
+pub record Copies (first number : ℕ) (own : List Record) (claims : List Claim) : Type 0 where
+  pub many : length claims ≡ first + countOf 6 own
+  pub each : (before upto dests after : List Record) (p s q : ℕ) (t : TxNumber) → own ≡ before ++ Destination t q ∷ after
+      → before ≡ upto ++ Signal p s ∷ dests → Each IsDestination dests → (d : Claim)
+      → getD claims (first + countOf 6 before) d ≡ record { rx = number; tx = t .0; at = q; from = copy p s }
+
+-- "An enabled failure indicator owns one bit, at its position, in the Tx frame of the first destination of its frame's first signal." It comes first:
+-- "an enabled failure bit becomes 0; signals are copied"
+pub record ClaimsOf (number : ℕ) (x : RxFrame) (own : List Record) (claims : List Claim) : Type 0 where
+  pub disabled : x .enable ≢ 1 → Copies 0 number own claims
+  pub enabled : x .enable ≡ 1 → 0 < countOf 6 own → Copies 1 number own claims
+  pub failing : x .enable ≡ 1 → (p s q : ℕ) (t : TxNumber) (after : List Record) → own ≡ Signal p s ∷ Destination t q ∷ after → (d : Claim)
+      → getD claims 0 d ≡ record { rx = number; tx = t .0; at = x .position; from = failure }
+  -- with no destination there is no claim
+  pub nothing : countOf 6 own ≡ 0 → length claims ≡ 0
+
+-- ---- the rows
+
+-- the row of Rx frame x, after which those records stand
+pub record RowOf (n : ℕ) (x : RxFrame) (since : List Record) (row : Row) : Type 0 where
+  pub number : row .number ≡ n
+  pub frame : row .frame ≡ x
+  pub claims : (own rest : List Record) → since ≡ own ++ rest → Each Own own → Beyond rest → ClaimsOf n x own (row .claims)
+
+pub record RowsOf (rs : List Record) (rows : List Row) : Type 0 where
+  pub many : length rows ≡ countOf 4 rs
+  pub each : (front since : List Record) (x : RxFrame) → rs ≡ front ++ Rx x ∷ since → (d : Row)
+      → RowOf (countOf 4 front) x since (getD rows (countOf 4 front) d)
+
+-- ---- plans in which these words leave nothing open
+
+-- an enabled indicator's frame is followed by a signal and a destination
+abbrev pub Indicated : List Record → Type 0
+Indicated since = (p : ℕ) × (s : ℕ) × (t : TxNumber) × (q : ℕ) × (rest : List Record) × (since ≡ Signal p s ∷ Destination t q ∷ rest)
+
+-- no destination stands before its frame's first signal
+abbrev pub SignalFirst : List Record → Type 0
+SignalFirst since = (t : TxNumber) (q : ℕ) (rest : List Record) → since ≢ Destination t q ∷ rest
+
+pub record Regular (x : RxFrame) (since : List Record) : Type 0 where
+  pub signalled : SignalFirst since
+  pub indicated : x .enable ≡ 1 → Indicated since
+
+-- an Rx frame stands before, and since it only what is its own
+abbrev pub Framed : List Record → Type 0
+Framed front = (upto : List Record) × (x : RxFrame) × (own : List Record) × (front ≡ upto ++ Rx x ∷ own) × Each Own own
+
+-- "Rx frames, each followed by its signals, each followed by its destinations"
+pub record Lawful (rs : List Record) : Type 0 where
+  pub whole : Each Whole rs
+  pub framed : (front rest : List Record) (r : Record) → rs ≡ front ++ r ∷ rest → Own r → Framed front
+  pub regular : (front since : List Record) (x : RxFrame) → rs ≡ front ++ Rx x ∷ since → Regular x since

@@ -1,0 +1,4 @@
+pub mod Claims
+pub mod Owners
+pub mod Statements
+pub mod Examples

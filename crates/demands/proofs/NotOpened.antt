@@ -1,0 +1,74 @@
+-- Refusal 11 of a call is given exactly where the area is short or bears no mark. Assumes nothing.
+use mathlib.Core.Path.{_≡_, refl, sym, _∙_}
+use mathlib.Core.Logic.{_↔_}
+use mathlib.Core.Bool.{Bool, true, false, true≢false}
+use mathlib.Core.List.{List}
+use Prim.Native.Nat.{ℕ}
+use native.Mathlib.Omega.{arith}
+use lib.Dec.{leb, ltb, eqb}
+use lib.ListN.{length}
+use Rattle.base.specs.Pick.{pick}
+use Rattle.base.proofs.Picks.{both}
+use Rattle.area.specs.Layout.{marked, nodeCount, txCount, rxCount}
+use Rattle.area.specs.Queue.{endsOf}
+use Rattle.answers.specs.declared.Refusal.{Refusal}
+use Rattle.answers.specs.declared.Refusal.the-variants.{NotOpen}
+use Rattle.answers.specs.declared.Received.the-variants as ofReception
+use Rattle.answers.specs.declared.Ticked.the-variants as ofTick
+use Rattle.answers.specs.declared.Taken.the-variants as ofTake
+use Rattle.answers.specs.declared.Fullness.the-variants as ofFullness
+use Rattle.reception.specs.declared.lookup.Found.{Found}
+use Rattle.reception.specs.declared.lookup.Found.the-variants.{At, Nothing}
+use Rattle.reception.specs.Lookup.{lookedUp}
+use Rattle.reception.specs.Reception.{foundAnswer, receivedAnswer}
+use Rattle.ticking.specs.Tick.{tickAnswer}
+use Rattle.taking.specs.Taken.{oldestAnswer, takenAnswer, fullnessAnswer}
+use Rattle.refines.specs.Shows.{Marked}
+use Rattle.refines.proofs.Worlds.{marks, unmarked}
+use Rattle.demands.specs.Demand1.{NotOpened}
+
+-- two answers that are not one
+pub no : _≡_ {A = ℕ} 0 1 → ⊥
+no z = omega arith
+
+-- a test answers y exactly where it fails
+last : {A : Type 0} (t : Bool) (x y : A) → (x ≡ y → ⊥) → (pick t x y ≡ y) ↔ (t ≡ false)
+unfolding pick
+last true x y d = (λ e. absurd (d e), λ e. absurd (true≢false e))
+last false x y d = (λ e. refl, λ e. refl)
+
+module _ (a : List ℕ) where
+  -- by the test of the mark, which comes first
+  first : {A : Type 0} (x y : A) → (x ≡ y → ⊥) → (pick (marked a) x y ≡ y) ↔ (Marked a → ⊥)
+  first x y d =
+      let w = last (marked a) x y d in
+      (λ e m. true≢false (sym (marks m) ∙ w .0 e), λ n. w .1 (unmarked a n))
+
+  -- ---- what comes after it answers no refusal 11
+
+  unrefused : (payload : List ℕ) (why : Refusal) (f : Found) → foundAnswer a f payload ≡ ofReception.Refused why → ⊥
+  unfolding foundAnswer
+  unrefused payload why Nothing = λ e. no cc
+  unrefused payload why (At r) = both (λ x. x ≡ ofReception.Refused why → ⊥) _ _ _ (λ e. no cc) (λ e. no cc)
+
+  pub taken-unrefused : (n : ℕ) (why : Refusal) → oldestAnswer a n ≡ ofTake.Refused why → ⊥
+  unfolding oldestAnswer
+  taken-unrefused n why = both (λ x. x ≡ ofTake.Refused why → ⊥) (eqb (endsOf a n .waiting) 0) _ _ (λ e. no cc) (λ e. no cc)
+
+  pub not-opened : NotOpened a
+  unfolding receivedAnswer tickAnswer takenAnswer fullnessAnswer
+  not-opened =
+      record {
+        reception =
+            λ n id payload.
+            first _ _
+            (both (λ x. x ≡ ofReception.Refused NotOpen → ⊥) (ltb n (nodeCount a)) _ _
+            (both (λ x. x ≡ ofReception.Refused NotOpen → ⊥) (leb (length payload) 8) _ _ (unrefused payload NotOpen (lookedUp a n id)) (λ e. no cc))
+            (λ e. no cc));
+        tick =
+            λ report. first _ _ (both (λ x. x ≡ ofTick.Refused NotOpen → ⊥) (leb (rxCount a) (length report)) _ _ (λ e. no cc) (λ e. no cc));
+        take =
+            λ n. first _ _ (both (λ x. x ≡ ofTake.Refused NotOpen → ⊥) (ltb n (nodeCount a)) _ _ (taken-unrefused n NotOpen) (λ e. no cc));
+        fullness =
+            λ t. first _ _ (both (λ x. x ≡ ofFullness.Refused NotOpen → ⊥) (ltb t (txCount a)) _ _ (λ e. no cc) (λ e. no cc));
+      }

@@ -1,0 +1,38 @@
+-- The second texts. Assumes nothing.
+use Rattle.encoding.proofs.Decode.{decodes-encoded}
+use Rattle.encoding.proofs.Encode.{encodes-good}
+use Rattle.encoding.proofs.Sizes.{sizes-agree}
+use Rattle.encoding.proofs.Broken.{broken-exactly}
+use Rattle.encoding.proofs.Cases.{kinds-hold}
+use Rattle.claims.proofs.Said.{good-said}
+use Rattle.claims.proofs.Examples.{written}
+use Rattle.refusals.proofs.Exactly.{refused-exactly, good-exactly, one-refusal}
+use Rattle.restated.proofs.Bits.{bits-at-ends, bits-by-numbers}
+use Rattle.restated.proofs.Copies.{copies-by-numbers}
+use Rattle.restated.proofs.Clock.{counter-by-number, handled-by-number, handling}
+use Rattle.restated.proofs.Owners.{owners-by-digits}
+use Rattle.restated.proofs.Search.{search-by-looks}
+use Rattle.demands.specs.Texts.{Texts}
+
+pub texts : Texts
+texts =
+    record {
+      decodes = decodes-encoded;
+      encodes = encodes-good;
+      sizes = sizes-agree;
+      broken = broken-exactly;
+      kinds = kinds-hold;
+      said = good-said;
+      written = written;
+      refused = refused-exactly;
+      good = good-exactly;
+      one = one-refusal;
+      ends = bits-at-ends;
+      bits = bits-by-numbers;
+      copies = copies-by-numbers;
+      counter = counter-by-number;
+      handled = handled-by-number;
+      handling = handling;
+      owners = owners-by-digits;
+      search = search-by-looks;
+    }

@@ -1,0 +1,152 @@
+-- What is decoded is encoded. Assumes nothing.
+use mathlib.Core.Path.{_≡_, refl, sym, ap, _∙_}
+use mathlib.Core.Logic.{dite}
+use mathlib.Core.Bool.{false≢true}
+use mathlib.Core.List.{List, [], _∷_, _++_}
+use Prim.Native.Nat.{ℕ, zero, suc, _+_, _-_, _/_, _%_, _≤_, _<_}
+use native.Mathlib.Decide.{decLt}
+use native.Mathlib.Omega.{arith}
+use native.Mathlib.Nat.{add-zero}
+use borrow.Author.Tests.{ltb-false}
+use lib.Dec.{leb, ltb, eqb}
+use lib.ListN.{length, drop, drop-of-length-le}
+use lib.Seq.{drop-cons}
+use Rattle.base.specs.Pick.{pick}
+use Rattle.base.specs.Numbers.{byteAt, twoAt, Bytes}
+use Rattle.base.proofs.Picks.{cases, by-eqb}
+use Rattle.records.specs.declared.record.Record.{Record}
+use Rattle.records.specs.declared.record.Record.the-variants.{Head, Node, Tx, Rx, Signal, Destination, BadKind, Cut, End}
+use Rattle.records.specs.Records.{lengthOf, eightAt, txAt, rxAt, fieldsAt, recordAt, sizeOf, recordsAt, records}
+use Rattle.records.proofs.RecordLaws.{record-some, records-end, records-step}
+use Rattle.plan.specs.Tests.{isKind, isWhole}
+use Rattle.facts.specs.Good.{Each, Placed, InPlace}
+use Rattle.facts.proofs.GoodFacts.{good-facts}
+use Rattle.encoding.specs.Encode.{bytesOf, encode, Whole, EncodesDecoded, EncodesGood}
+
+module _ (plan : List ℕ) (b : Bytes plan) (at : ℕ) where
+  -- k bytes, from the i-th after a place on
+  abbrev span : ℕ → ℕ → List ℕ
+  span i zero = []
+  span i (suc k) = byteAt plan (at + i) ∷ span (suc i) k
+
+  -- they and the rest are all from there on
+  span-rest : (k i : ℕ) → at + i + k ≤ length plan → span i k ++ drop (at + i + k) plan ≡ drop (at + i) plan
+  span-rest zero i h = rw (add-zero (at + i))
+  span-rest (suc k) i h =
+      let next : at + suc i + k ≡ at + i + suc k = omega arith in
+      let one : at + suc i ≡ suc (at + i) = omega arith in
+      let later = rw (next, one) at (span-rest k (suc i) (omega arith)) in
+      ap (λ (xs : List ℕ). byteAt plan (at + i) ∷ xs) later ∙ sym (drop-cons plan (at + i) 0 (omega arith))
+
+  first : byteAt plan at ≡ byteAt plan (at + 0)
+  first = ap (byteAt plan) (sym (add-zero at))
+
+  -- the two bytes of a number
+  high : (i : ℕ) → twoAt plan (at + i) / 256 ≡ byteAt plan (at + i)
+  high i = omega (arith, b (at + i + 1))
+
+  low : (i : ℕ) → twoAt plan (at + i) % 256 ≡ byteAt plan (at + suc i)
+  low i = let e : at + i + 1 ≡ at + suc i = omega arith in omega (arith, b (at + i + 1), ap (byteAt plan) e)
+
+  -- the bytes of each kind that has a number of two bytes, each a path in each byte
+  tx-bytes : byteAt plan at ≡ 3 → bytesOf (Tx (txAt plan at)) ≡ span 0 17
+  unfolding bytesOf txAt eightAt
+  tx-bytes e =
+      λ i. (sym e ∙ first) i ∷ byteAt plan (at + 1) ∷ high 2 i ∷ low 2 i ∷ byteAt plan (at + 4) ∷ byteAt plan (at + 5) ∷ byteAt plan (at + 6)
+      ∷ byteAt plan (at + 7) ∷ byteAt plan (at + 8) ∷ byteAt plan (at + 9) ∷ p 1 i ∷ p 2 i ∷ p 3 i ∷ p 4 i ∷ p 5 i ∷ p 6 i ∷ p 7 i ∷ []
+    where
+      p : (k : ℕ) → byteAt plan (at + 9 + k) ≡ byteAt plan (at + (9 + k))
+      p k = ap (byteAt plan) (omega arith)
+
+  rx-bytes : byteAt plan at ≡ 4 → bytesOf (Rx (rxAt plan at)) ≡ span 0 11
+  unfolding bytesOf rxAt
+  rx-bytes e = λ i. (sym e ∙ first) i ∷ byteAt plan (at + 1) ∷ high 2 i ∷ low 2 i ∷ span 4 7
+
+  destination-bytes : byteAt plan at ≡ 6 → bytesOf (Destination (record { 0 = twoAt plan (at + 1) }) (byteAt plan (at + 3))) ≡ span 0 4
+  unfolding bytesOf
+  destination-bytes e = λ i. (sym e ∙ first) i ∷ high 1 i ∷ low 1 i ∷ span 3 1
+
+  -- a whole record's bytes, and the rest
+  abbrev Rests : Record → Type 0
+  Rests r = Whole r → bytesOf r ++ drop (at + sizeOf r) plan ≡ drop at plan
+
+  rests : (r : Record) (k : ℕ) → sizeOf r ≡ k → at + k ≤ length plan → bytesOf r ≡ span 0 k → Rests r
+  rests r k z h e w =
+      let n : at + 0 + k ≡ at + k = omega arith in
+      rw (z, e) (rw (n, add-zero at) at (span-rest k 0 (omega arith)))
+
+  fields-rest : lengthOf (byteAt plan at) ≤ length plan - at → at < length plan → Rests (fieldsAt (byteAt plan at) plan at)
+  unfolding fieldsAt lengthOf bytesOf sizeOf pick
+  fields-rest l h =
+      let kind = byteAt plan at in
+      by-eqb Rests kind 1 _ _ (λ e. rests _ 2 refl (room 1 e l) (λ i. (sym e ∙ first) i ∷ span 1 1)) (λ n1.
+      by-eqb Rests kind 2 _ _ (λ e. rests _ 2 refl (room 2 e l) (λ i. (sym e ∙ first) i ∷ span 1 1)) (λ n2.
+      by-eqb Rests kind 3 _ _ (λ e. rests _ 17 refl (room 3 e l) (tx-bytes e)) (λ n3.
+      by-eqb Rests kind 4 _ _ (λ e. rests _ 11 refl (room 4 e l) (rx-bytes e)) (λ n4.
+      by-eqb Rests kind 5 _ _ (λ e. rests _ 3 refl (room 5 e l) (λ i. (sym e ∙ first) i ∷ span 1 2)) (λ n5.
+      by-eqb Rests kind 6 _ _ (λ e. rests _ 4 refl (room 6 e l) (destination-bytes e)) (λ n6 w. absurd (no-whole w)))))))
+    where
+      room : (k : ℕ) → byteAt plan at ≡ k → lengthOf (byteAt plan at) ≤ length plan - at → at + lengthOf k ≤ length plan
+      room k e l = omega (arith, ap lengthOf e)
+
+      no-whole : Whole BadKind → ⊥
+      no-whole w = unfold Whole in w
+
+-- the record at a place
+record-rests : (plan : List ℕ) (b : Bytes plan) (at : ℕ) → at < length plan → Rests plan b at (recordAt plan at)
+unfolding recordAt Whole
+record-rests plan b at h =
+    let kind = byteAt plan at in
+    let P = Rests plan b at in
+    cases P (leb (length plan) at) _ _ (λ t w. absurd w) (λ t.
+    cases P (eqb (lengthOf kind) 0) _ _ (λ z w. absurd w) (λ z.
+    cases P (ltb (length plan - at) (lengthOf kind)) _ _ (λ s w. absurd w) (λ s. fields-rest plan b at (ltb-false _ _ s) h)))
+
+-- ---- all records
+
+abbrev Back : List ℕ → ℕ → Type 0
+Back plan at = Each Whole (recordsAt plan at) → encode (recordsAt plan at) ≡ drop at plan
+
+at-end : (plan : List ℕ) (at : ℕ) → length plan ≤ at → Back plan at
+unfolding encode
+at-end plan at d w = rw (records-end plan at d) (sym (drop-of-length-le plan d))
+
+before-end : (plan : List ℕ) (at : ℕ) → Bytes plan → at < length plan → Back plan (at + sizeOf (recordAt plan at)) → Back plan at
+unfolding encode Each
+before-end plan at b i more w =
+    let all : Each Whole (recordAt plan at ∷ recordsAt plan (at + sizeOf (recordAt plan at))) = rw (records-step plan at i) at w in
+    rw (records-step plan at i, more (all .1)) (record-rests plan b at i (all .0))
+
+-- the first argument bounds the bytes that are left
+from : (bound : ℕ) (plan : List ℕ) (at : ℕ) → Bytes plan → length plan - at ≤ bound → Back plan at
+from zero plan at b l = at-end plan at (omega arith)
+from (suc bound) plan at b l =
+    dite (decLt at (length plan))
+    (λ i. before-end plan at b i (from bound plan (at + sizeOf (recordAt plan at)) b (omega (arith, record-some plan at i))))
+    (λ d. at-end plan at (omega arith))
+
+pub encodes-decoded : EncodesDecoded
+unfolding records
+encodes-decoded plan b w = from (length plan) plan 0 b (omega arith) w
+
+-- ---- a good plan's records are whole
+
+placed-whole : (last : ℕ) (r : Record) → Placed last r → Whole r
+unfolding Whole isKind isWhole
+placed-whole last (Head order) p = tt
+placed-whole last (Node type) p = tt
+placed-whole last (Tx x) p = tt
+placed-whole last (Rx x) p = tt
+placed-whole last (Signal position size) p = tt
+placed-whole last (Destination tx position) p = tt
+placed-whole last BadKind p = absurd (false≢true (p .known))
+placed-whole last (Cut kind) p = absurd (false≢true (p .whole))
+placed-whole last End p = absurd (false≢true (p .known))
+
+all-whole : (last : ℕ) (rs : List Record) → InPlace last rs → Each Whole rs
+unfolding InPlace Each
+all-whole last [] p = tt
+all-whole last (r ∷ rs) p = (placed-whole last r (p .0), all-whole _ rs (p .1))
+
+pub encodes-good : EncodesGood
+encodes-good plan n t r b g = encodes-decoded plan b (all-whole 0 (records plan) (good-facts plan n t r g .0 .place))

@@ -1,0 +1,5 @@
+pub mod Sizes
+pub mod Decode
+pub mod Encode
+pub mod Broken
+pub mod Cases

@@ -1,0 +1,98 @@
+-- What a call can come to, of any gateway that meets the rules: it leaves the state, or it does its work. Assumes nothing.
+use mathlib.Core.Path.{_≡_, refl, ap, _∙_}
+use mathlib.Core.Logic.{_⊎_, inl, inr, ⊎-elim}
+use mathlib.Core.List.{List, [], _∷_}
+use Prim.Native.Nat.{ℕ, _≤_, _<_}
+use native.Mathlib.Omega.{arith}
+use native.Mathlib.Decide.{decLt}
+use lib.ListN.{length}
+use Rattle.model.specs.Plan.{Plan, rowIn}
+use Rattle.model.specs.State.{State, queueOn}
+use Rattle.model.specs.Calls.{Call, reception, tick, take, fullness, Running}
+use Rattle.model.specs.Words.{Names, Shape}
+use Rattle.model.specs.ReceptionRules.{Accepts, ReceptionRules}
+use Rattle.model.specs.TickRules.{Done}
+use Rattle.model.specs.TakeRules.{Takes, TakeRules}
+use Rattle.model.specs.Rules.{Runs}
+use Rattle.model.proofs.AgreeTicks.{named}
+use Rattle.model.proofs.AgreeReceptions.{order-shape, load-shape}
+
+-- a tick is refused, or it is done
+abbrev pub TickOutcome : Plan → Running → State → List ℕ → Type 0
+TickOutcome p g s report =
+    ((g .next s (tick report) ≡ s) × (length report < length (p .rows))) ⊎ ((length (p .rows) ≤ length report) × Done p g s report)
+
+module _ (p : Plan) (g : Running) (meets : Runs p g) (s : State) (k : Shape p s) where
+  abbrev Left : Call → Type 0
+  Left c = g .next s c ≡ s
+
+  pub reception-outcome : (n i : ℕ) (payload : List ℕ) → Left (reception n i payload) ⊎ ((r : ℕ) × Names p n i r × Accepts p g s n i payload r)
+  reception-outcome n i payload = go (decLt n (p .nodes)) (decLt 8 (length payload)) (named p g g s k n i)
+    where
+      a : ReceptionRules p g s n i payload
+      a = meets .reception s k n i payload
+
+      row : n < p .nodes → length payload ≤ 8 → (r : ℕ) → Names p n i r → Dec (length payload < rowIn p r .frame .size)
+          → Left (reception n i payload) ⊎ ((r : ℕ) × Names p n i r × Accepts p g s n i payload r)
+      row l m r x (yes d) = inl (a .short l m r x d .stays)
+      row l m r x (no d) = inr (r, x, a .accepted l m r x (omega arith))
+
+      go : Dec (n < p .nodes) → Dec (8 < length payload) → ((r : ℕ) × Names p n i r) ⊎ ((r : ℕ) → Names p n i r → ⊥)
+          → Left (reception n i payload) ⊎ ((r : ℕ) × Names p n i r × Accepts p g s n i payload r)
+      go (no d) w v = inl (a .refused (omega arith) .stays)
+      go (yes l) (yes m) v = inl (a .long l m .stays)
+      go (yes l) (no m) (inr f) = inl (a .noRow l (omega arith) f .stays)
+      go (yes l) (no m) (inl (r, x)) = row l (omega arith) r x (decLt _ _)
+
+  pub tick-outcome : (report : List ℕ) → TickOutcome p g s report
+  tick-outcome report = go (decLt (length report) (length (p .rows)))
+    where
+      go : Dec (length report < length (p .rows)) → TickOutcome p g s report
+      go (yes l) = inl (meets .tick s k report .refused l .stays, l)
+      go (no d) = inr (omega arith, meets .tick s k report .done (omega arith))
+
+  pub take-outcome : (n : ℕ) → Left (take n) ⊎ ((t : ℕ) × (rest : List ℕ) × Takes p g s n t rest)
+  take-outcome n = go (decLt n (p .nodes))
+    where
+      a : TakeRules p g s n
+      a = meets .take s k n
+
+      on : n < p .nodes → (q : List ℕ) → queueOn s n ≡ q → Left (take n) ⊎ ((t : ℕ) × (rest : List ℕ) × Takes p g s n t rest)
+      on l [] e = inl (a .none l e .stays)
+      on l (t ∷ rest) e = inr (t, rest, a .oldest l t rest e)
+
+      go : Dec (n < p .nodes) → Left (take n) ⊎ ((t : ℕ) × (rest : List ℕ) × Takes p g s n t rest)
+      go (no d) = inl (a .refused (omega arith) .stays)
+      go (yes l) = on l (queueOn s n) refl
+
+  pub fullness-outcome : (t : ℕ) → Left (fullness t)
+  fullness-outcome t = go (decLt t (length (p .tx)))
+    where
+      go : Dec (t < length (p .tx)) → Left (fullness t)
+      go (no d) = meets .fullness s k t .refused (omega arith) .stays
+      go (yes l) = meets .fullness s k t .counts l .answers .stays
+
+  -- ---- each leaves one thing of each kind
+
+  same : {c : Call} → Left c → Shape p (g .next s c)
+  same e = rw e k
+
+  pub shaped : (c : Call) → Shape p (g .next s c)
+  shaped (reception n i payload) =
+      ⊎-elim same
+      (λ (r, x, w). order-shape p payload (rowIn p r .claims) (w .loaded) _ (load-shape p r s (w .loaded) k (w .loads)) (w .puts))
+      (reception-outcome n i payload)
+  shaped (tick report) = ⊎-elim (λ e. same (e .0)) (λ w. w .1 .ticks .shape) (tick-outcome report)
+  shaped (take n) =
+      ⊎-elim same
+      (λ (t, rest, x).
+      record {
+        kept = ap length (x .kept) ∙ k .kept;
+        payload = λ u m. rw (x .kept) (k .payload u m);
+        txTimers = ap length (x .txTimers) ∙ k .txTimers;
+        rxTimers = ap length (x .rxTimers) ∙ k .rxTimers;
+        longs = ap length (x .longs) ∙ k .longs;
+        queues = x .queues ∙ k .queues;
+      })
+      (take-outcome n)
+  shaped (fullness t) = same (fullness-outcome t)

@@ -1,0 +1,89 @@
+-- An Rx timer loaded with v expires at its v-th handling: each call takes its handlings off what the timer holds. Assumes nothing.
+use mathlib.Core.Path.{_≡_, sym, ap, _∙_}
+use mathlib.Core.Logic.{_≢_, _⊎_, inl, inr, ⊎-elim}
+use mathlib.Core.List.{List, [], _∷_}
+use Prim.Native.Nat.{ℕ, _+_, _%_, _<_}
+use native.Mathlib.Omega.{arith}
+use native.Mathlib.Decide.{ℕ-discrete}
+use lib.ListN.{length, getD}
+use Rattle.plan.specs.Rows.{Claim}
+use Rattle.answers.specs.declared.Ticked.the-variants.{Done}
+use Rattle.model.specs.Plan.{Plan, rowIn}
+use Rattle.model.specs.State.{State}
+use Rattle.model.specs.Calls.{Call, reception, tick, take, fullness, ticked, Running}
+use Rattle.model.specs.Words.{Names, Shape}
+use Rattle.model.specs.ReceptionRules.{InOrder, Accepts}
+use Rattle.model.specs.Rules.{Runs}
+use Rattle.model.specs.Timers.{stateLeft, Throughout, handlingOf, handlings, Leaves, Silent, RxWaits, RxExpiry}
+use Rattle.model.proofs.Outcomes.{TickOutcome, reception-outcome, tick-outcome, take-outcome, fullness-outcome, shaped}
+use Rattle.model.proofs.Handlings.{one-given, not-refused, handled-once, undone, fallen}
+
+module _ (p : Plan) (g : Running) (meets : Runs p g) where
+  module _ (r : ℕ) (l : r < length (p .rows)) where
+    abbrev held : State → ℕ
+    held s = getD (s .rxTimers) r 0
+
+    abbrev by : State → Call → ℕ
+    by = handlingOf p (rowIn p r .frame .prescaler)
+
+    order-rx : (payload : List ℕ) (cs : List Claim) (s x : State) → InOrder p payload cs s x → x .rxTimers ≡ s .rxTimers
+    unfolding InOrder
+    order-rx payload [] s x e = ap (λ z. z .rxTimers) e
+    order-rx payload (c ∷ cs) s x (m, a, b) = order-rx payload cs m x b ∙ a .aside .rxTimers
+
+    step-rx : (s : State) → Shape p s → (c : Call) → Leaves p g r s c → by s c < held s → held (g .next s c) + by s c ≡ held s
+    unfolding Leaves handlingOf
+    step-rx s k (reception n i payload) f m =
+        ⊎-elim (λ e. rw e (omega arith)) (λ (q, x, w). accepted q x w (ℕ-discrete r q)) (reception-outcome p g meets s k n i payload)
+      where
+        accepted : (q : ℕ) → Names p n i q → Accepts p g s n i payload q → Dec (r ≡ q)
+            → held (g .next s (reception n i payload)) + 0 ≡ held s
+        accepted q x w (yes e) = absurd (f (w .answer) (rw e x))
+        accepted q x w (no d) = omega (arith, ap (λ z. getD z r 0) (order-rx payload (rowIn p q .claims) (w .loaded) _ (w .puts)), w .loads .others r d)
+    step-rx s k (tick report) f m = go (tick-outcome p g meets s k report)
+      where
+        go : TickOutcome p g s report → held (g .next s (tick report)) + by s (tick report) ≡ held s
+        go (inl (e, u)) = rw e (omega (arith, undone p (rowIn p r .frame .prescaler) s report u))
+        go (inr (u, w)) = fallen p _ s report _ _ _ u (w .ticks .rxTimers r l) m
+    step-rx s k (take n) f m = ⊎-elim (λ e. rw e (omega arith)) (λ (t, rest, x). rw (x .rxTimers) (omega arith)) (take-outcome p g meets s k n)
+    step-rx s k (fullness t) f m = rw (fullness-outcome p g meets s k t) (omega arith)
+
+    silent : (s : State) → Shape p s → (c : Call) → by s c < held s → Silent g r s c
+    unfolding Silent
+    silent s k (reception n i payload) m = tt
+    silent s k (take n) m = tt
+    silent s k (fullness t) m = tt
+    silent s k (tick report) m = λ given a. go given a (tick-outcome p g meets s k report)
+      where
+        go : (given : List ℕ) → g .answer s (tick report) ≡ ticked Done given → TickOutcome p g s report → getD given r 0 ≡ 0
+        go given a (inl (e, u)) = absurd (not-refused a (meets .tick s k report .refused u .answer))
+        go given a (inr (u, w)) =
+            ap (λ z. getD z r 0) (one-given a (w .answer))
+            ∙ w .reports .nothing r l (λ x. omega (arith, x .last, handled-once p (rowIn p r .frame .prescaler) s report u (x .handled)))
+
+    pub rx-waits : (s : State) → Shape p s → (cs : List Call) → Throughout (Leaves p g r) g s cs
+        → handlings p (rowIn p r .frame .prescaler) g s cs < held s → RxWaits p g s r cs
+    unfolding stateLeft Throughout handlings
+    rx-waits s k [] f m = record { left = omega arith; silent = tt; expires = last }
+      where
+        last : 1 ≡ held s → (report given : List ℕ) → s .number % rowIn p r .frame .prescaler ≡ 0 → g .answer s (tick report) ≡ ticked Done given
+            → getD given r 0 ≢ 0
+        last one report given e a z = go (tick-outcome p g meets s k report) (ℕ-discrete (getD (s .longs) r 0) 1)
+          where
+            go : TickOutcome p g s report → Dec (getD (s .longs) r 0 ≡ 1) → ⊥
+            go (inl (x, u)) d = not-refused a (meets .tick s k report .refused u .answer)
+            go (inr (u, w)) (yes d) =
+                omega (arith, ap (λ y. getD y r 0) (one-given a (w .answer)), w .reports .long r (record { frame = l; handled = e; last = sym one }) d)
+            go (inr (u, w)) (no d) =
+                omega (arith, ap (λ y. getD y r 0) (one-given a (w .answer)), w .reports .short r (record { frame = l; handled = e; last = sym one }) d)
+    rx-waits s k (c ∷ cs) f m =
+        let e = step-rx s k c (f .0) (omega arith) in
+        let rest = rx-waits (g .next s c) (shaped p g meets s k c) cs (f .1) (omega arith) in
+        record {
+          left = omega (arith, rest .left);
+          silent = (silent s k c (omega arith), rest .silent);
+          expires = λ one. rest .expires (omega arith);
+        }
+
+pub rx-expiry : RxExpiry
+rx-expiry p g meets s k r l cs f m = rx-waits p g meets r l s k cs f m

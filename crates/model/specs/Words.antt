@@ -1,0 +1,51 @@
+-- The words of the rules: what stands in a list, which Rx frame a node and an ID name, what a state has.
+use mathlib.Core.Path.{_≡_}
+use mathlib.Core.Logic.{_⊎_, _↔_}
+use mathlib.Core.List.{List, [], _∷_}
+use Prim.Native.Nat.{ℕ, _<_}
+use lib.ListN.{length}
+use Rattle.base.specs.Numbers.{Bytes}
+use Rattle.facts.specs.Good.{Each}
+use Rattle.model.specs.Plan.{Plan, rowIn}
+use Rattle.model.specs.State.{State, keptOf}
+use Rattle.model.specs.Calls.{Call, Answer, Running}
+
+-- x stands in a list
+unfoldable pub In : {A : Type 0} → A → List A → Type 0
+In x [] = ⊥
+In x (y ∷ ys) = (x ≡ y) ⊎ In x ys
+
+-- in number order, none twice
+unfoldable pub Ascending : List ℕ → Type 0
+Ascending [] = Unit {0}
+Ascending (x ∷ xs) = Each (λ y. x < y) xs × Ascending xs
+
+-- exactly the numbers with a property, in number order
+pub record Those (P : ℕ → Type 0) (xs : List ℕ) : Type 0 where
+  pub order : Ascending xs
+  pub exactly : (x : ℕ) → In x xs ↔ P x
+
+-- Rx frame r is the plan's frame of node n with this ID
+pub record Names (p : Plan) (n i r : ℕ) : Type 0 where
+  pub exists : r < length (p .rows)
+  pub node : rowIn p r .frame .node ≡ n
+  pub id : rowIn p r .frame .id ≡ i
+
+-- a payload: eight bytes
+pub record Payload (xs : List ℕ) : Type 0 where
+  pub eight : length xs ≡ 8
+  pub bytes : Bytes xs
+
+-- one thing of each kind for each frame and node
+pub record Shape (p : Plan) (s : State) : Type 0 where
+  pub kept : length (s .kept) ≡ length (p .tx)
+  pub payload : (t : ℕ) → t < length (p .tx) → Payload (keptOf s t)
+  pub txTimers : length (s .txTimers) ≡ length (p .tx)
+  pub rxTimers : length (s .rxTimers) ≡ length (p .rows)
+  pub longs : length (s .longs) ≡ length (p .rows)
+  pub queues : length (s .queues) ≡ p .nodes
+
+-- a caller's call is refused: the answer, and "A refusal writes nothing."
+pub record Answers (g : Running) (s : State) (c : Call) (x : Answer) : Type 0 where
+  pub answer : g .answer s c ≡ x
+  pub stays : g .next s c ≡ s

@@ -1,0 +1,62 @@
+-- No call changes the length of an area, whatever stands in it. Assumes nothing.
+use mathlib.Core.Path.{_≡_, refl, _∙_}
+use mathlib.Core.List.{List, [], _∷_}
+use Prim.Native.Nat.{ℕ, _+_}
+use lib.ListN.{length, length-set}
+use Rattle.base.proofs.Picks.{both}
+use Rattle.plan.specs.Rows.{Claim}
+use Rattle.area.specs.Layout.{rxTimer, order, claims}
+use Rattle.area.specs.Claims.{Event, accepted, allDone}
+use Rattle.area.proofs.Frame.{Same, Each, Off, same-allDone, same-dequeued}
+use Rattle.answers.specs.declared.Opened.{Opened}
+use Rattle.answers.specs.declared.Opened.the-variants.{Open, Refused}
+use Rattle.answers.specs.declared.Ticked.{Ticked}
+use Rattle.opening.specs.Opened.{openedArea}
+use Rattle.opening.proofs.OpenedLaws.{opened-length}
+use Rattle.reception.specs.Reception.{padded, acceptedArea, receivedArea}
+use Rattle.reception.proofs.ReceptionLaws.{by-answer}
+use Rattle.ticking.specs.Tick.{tickedArea}
+use Rattle.ticking.proofs.TickLaws.{length-ticked, by-answer as by-tick}
+use Rattle.taking.specs.Taken.{oldestArea, takenArea}
+use Rattle.model.specs.Calls.{Call, reception, tick, take, fullness}
+use Rattle.history.specs.Calls.{areaAfter}
+
+-- a change of an area, of which nothing but its length is said
+abbrev Sized : List ℕ → List ℕ → Type 0
+Sized a b = Same (λ j. ⊥) a b
+
+offs : (cs : List Claim) → Each (Off (λ j. ⊥)) cs
+offs [] = tt
+offs (c ∷ cs) = (record { bits = λ k l x. x; wait = λ x. x; timer = λ x. x }, offs cs)
+
+sized-done : (o : ℕ) (e : Event) (cs : List Claim) (a : List ℕ) → Sized a (allDone o e cs a)
+sized-done o e cs a = same-allDone (λ n h j l m x. x) (λ j l m x. x) o e cs a (offs cs)
+
+pub opened-sized : (x : Opened) (plan a : List ℕ) → length (openedArea x plan a) ≡ length a
+unfolding openedArea
+opened-sized (Open nodes tx rx) plan a = opened-length plan a
+opened-sized (Refused why number) plan a = refl
+
+accepted-sized : (a : List ℕ) (r : ℕ) (payload : List ℕ) → length (acceptedArea a r payload) ≡ length a
+unfolding acceptedArea
+accepted-sized a r payload = sized-done (order a) (accepted r (padded payload)) (claims a r) _ .len ∙ length-set a (rxTimer r + 1) _
+
+received-sized : (a : List ℕ) (n id : ℕ) (payload : List ℕ) → length (receivedArea a n id payload) ≡ length a
+received-sized a n id payload =
+    by-answer a n id payload (λ x b. length b ≡ length a) (λ x d. refl) (λ r f. accepted-sized a (r .0) payload)
+
+ticked-sized : (x : Ticked) (a : List ℕ) → length (tickedArea x a) ≡ length a
+ticked-sized x a = by-tick (λ b. length b ≡ length a) x a (length-ticked a) refl
+
+taken-sized : (a : List ℕ) (n : ℕ) → length (takenArea a n) ≡ length a
+unfolding takenArea oldestArea
+taken-sized a n =
+    let P : List ℕ → Type 0 = λ b. length b ≡ length a in
+    both P _ _ _ (both P _ _ _ (both P _ _ _ refl (same-dequeued {P = λ j. ⊥} a n (λ j l m x. x) (λ x. x) .len)) refl) refl
+
+pub call-sized : (a : List ℕ) (c : Call) → length (areaAfter a c) ≡ length a
+unfolding areaAfter
+call-sized a (reception n id payload) = received-sized a n id payload
+call-sized a (tick report) = ticked-sized _ a
+call-sized a (take n) = taken-sized a n
+call-sized a (fullness t) = refl

@@ -1,0 +1,98 @@
+-- The test of 5 fails exactly where that line applies. Assumes nothing.
+use mathlib.Core.Path.{_≡_, refl}
+use mathlib.Core.Logic.{_≢_, inl, inr}
+use mathlib.Core.Bool.{false, _&&_, _||_}
+use mathlib.Core.List.{List, [], _∷_}
+use Prim.Native.Nat.{ℕ, zero, suc, _≤_, _<_}
+use native.Mathlib.Omega.{arith}
+use lib.Dec.{leb, ltb, eqb}
+use lib.ListN.{getD}
+use Rattle.records.specs.declared.record.Eight.{Eight}
+use Rattle.records.specs.declared.record.TxFrame.{TxFrame}
+use Rattle.records.specs.declared.record.RxFrame.{RxFrame}
+use Rattle.records.specs.declared.record.Record.{Record}
+use Rattle.plan.specs.Tests.{isPrescaler, zeroPast, txInRange, rxInRange, inRange}
+use Rattle.facts.specs.Good.{countOf}
+use Rattle.facts.specs.Statements.{State}
+use Rattle.refusals.specs.Before.{_or_, _and_}
+use Rattle.refusals.specs.Fields.{NoPrescaler, NotZeroPast, OutOfRange}
+use Rattle.refusals.specs.Fields as F
+use Rattle.refusals.proofs.Passing.{Whole, head, node, tx-frame, rx-frame, signal, destination, countsIn}
+use Rattle.refusals.proofs.SoFar.{SoFar}
+use Rattle.refusals.proofs.Fails.{Fails, less, most, equal, both, either, by}
+
+prescaler : (p : ℕ) → Fails (isPrescaler p) (NoPrescaler p)
+unfolding isPrescaler
+prescaler p = either (either (either (equal _ _) (equal _ _)) (equal _ _)) (equal _ _)
+
+-- some byte past the size, one by one
+abbrev SomePast : ℕ → Eight → Type 0
+SomePast size b =
+    ((size ≤ 0) and (b .0 ≢ 0)) or ((size ≤ 1) and (b .1 ≢ 0)) or ((size ≤ 2) and (b .2 ≢ 0)) or ((size ≤ 3) and (b .3 ≢ 0))
+    or ((size ≤ 4) and (b .4 ≢ 0)) or ((size ≤ 5) and (b .5 ≢ 0)) or ((size ≤ 6) and (b .6 ≢ 0)) or ((size ≤ 7) and (b .7 ≢ 0))
+
+some-past : (size : ℕ) (b : Eight) → SomePast size b → NotZeroPast size b
+some-past size b (inl (inl (inl (inl (inl (inl (inl w))))))) = (0, w .0, w .1)
+some-past size b (inl (inl (inl (inl (inl (inl (inr w))))))) = (1, w .0, w .1)
+some-past size b (inl (inl (inl (inl (inl (inr w)))))) = (2, w .0, w .1)
+some-past size b (inl (inl (inl (inl (inr w))))) = (3, w .0, w .1)
+some-past size b (inl (inl (inl (inr w)))) = (4, w .0, w .1)
+some-past size b (inl (inl (inr w))) = (5, w .0, w .1)
+some-past size b (inl (inr w)) = (6, w .0, w .1)
+some-past size b (inr w) = (7, w .0, w .1)
+
+past-some : (size : ℕ) (b : Eight) (i : ℕ) → size ≤ i → getD (b .0 ∷ b .1 ∷ b .2 ∷ b .3 ∷ b .4 ∷ b .5 ∷ b .6 ∷ b .7 ∷ []) i 0 ≢ 0 → SomePast size b
+past-some size b zero l d = inl (inl (inl (inl (inl (inl (inl (l, d)))))))
+past-some size b (suc zero) l d = inl (inl (inl (inl (inl (inl (inr (l, d)))))))
+past-some size b (suc (suc zero)) l d = inl (inl (inl (inl (inl (inr (l, d))))))
+past-some size b (suc (suc (suc zero))) l d = inl (inl (inl (inl (inr (l, d)))))
+past-some size b (suc (suc (suc (suc zero)))) l d = inl (inl (inl (inr (l, d))))
+past-some size b (suc (suc (suc (suc (suc zero))))) l d = inl (inl (inr (l, d)))
+past-some size b (suc (suc (suc (suc (suc (suc zero)))))) l d = inl (inr (l, d))
+past-some size b (suc (suc (suc (suc (suc (suc (suc zero))))))) l d = inr (l, d)
+past-some size b (suc (suc (suc (suc (suc (suc (suc (suc i)))))))) l d = absurd (d refl)
+
+zeros : (size : ℕ) (b : Eight) → Fails (zeroPast size b) (NotZeroPast size b)
+unfolding zeroPast
+zeros size b =
+    by (both (both (both (both (both (both (both at at) at) at) at) at) at) at) (some-past size b) (λ w. past-some size b (w .0) (w .1) (w .2))
+  where
+    at : {i x : ℕ} → Fails (ltb i size || eqb x 0) ((size ≤ i) and (x ≢ 0))
+    at = either (less _ _) (equal _ _)
+
+tx-range : (n : ℕ) (x : TxFrame)
+    → Fails (txInRange n x)
+    ((n ≤ x .node) or (2047 < x .id) or (8 < x .size) or NoPrescaler (x .prescaler) or (3 < x .flags) or NotZeroPast (x .size) (x .payload))
+unfolding txInRange
+tx-range n x = both (both (both (both (both (less _ _) (less _ _)) (most _ _)) (prescaler _)) (most _ _)) (zeros _ _)
+
+rx-range : (n : ℕ) (x : RxFrame)
+    → Fails (rxInRange n x)
+    ((n ≤ x .node) or (2047 < x .id) or (8 < x .size) or NoPrescaler (x .prescaler) or (1 < x .enable) or (63 < x .position) or (15 < x .long))
+unfolding rxInRange
+rx-range n x = both (both (both (both (both (both (less _ _) (less _ _)) (most _ _)) (prescaler _)) (most _ _)) (most _ _)) (most _ _)
+
+signal-range : (p z : ℕ) → Fails (leb p 63 && ltb 0 z && leb z 64) ((63 < p) or (z < 1) or (64 < z))
+signal-range p z = both (both (most _ _) (by (less 0 z) (λ l. omega arith) (λ l. omega arith))) (most _ _)
+
+module _ (before : List Record) where
+  outside : (r : Record) → Whole r → inRange (countOf 2 before) r ≡ false → OutOfRange before r
+  unfolding inRange
+  outside r (head order) e = F.head order (most order 1 .says e)
+  outside r (node type) e = F.node type (equal type 0 .says e)
+  outside r (tx-frame x) e = F.tx-frame x (tx-range _ x .says e)
+  outside r (rx-frame x) e = F.rx-frame x (rx-range _ x .says e)
+  outside r (signal p z) e = F.signal p z (signal-range p z .says e)
+  outside r (destination t q) e = F.destination t q (most q 63 .says e)
+
+  not-inside : (r : Record) → OutOfRange before r → inRange (countOf 2 before) r ≡ false
+  unfolding inRange
+  not-inside r (F.head order l) = most order 1 .back l
+  not-inside r (F.node type l) = equal type 0 .back l
+  not-inside r (F.tx-frame x l) = tx-range _ x .back l
+  not-inside r (F.rx-frame x l) = rx-range _ x .back l
+  not-inside r (F.signal p z l) = signal-range p z .back l
+  not-inside r (F.destination t q l) = most q 63 .back l
+
+  pub range : (s : State) → SoFar before s → (r : Record) → Whole r → Fails (inRange (countsIn s .nodes) r) (OutOfRange before r)
+  range s h r w = rw (h .nodes) (record { says = outside r w; back = not-inside r })

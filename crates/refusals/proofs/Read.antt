@@ -1,0 +1,48 @@
+-- What the check has read is what the records say: their counts, their number and the kind of the last one. Assumes nothing.
+use mathlib.Core.Path.{_≡_, refl, sym, _∙_}
+use mathlib.Core.List.{List, [], _∷_, _++_}
+use Prim.Native.Nat.{_+_}
+use native.Mathlib.Omega.{arith}
+use native.Mathlib.Nat.{add-zero}
+use lib.ListN.{length}
+use Rattle.base.specs.Pick.{pick}
+use Rattle.records.specs.declared.record.Record.{Record}
+use Rattle.records.specs.Records.{kindOf}
+use Rattle.plan.specs.declared.progress.Counts.{Counts}
+use Rattle.plan.specs.Progress.{counted, after}
+use Rattle.facts.specs.Good.{Each, countOf}
+use Rattle.facts.specs.Statements.{State, stepped, stateAfter}
+use Rattle.refusals.proofs.Passing.{Whole, head, node, tx-frame, rx-frame, signal, destination, countsIn, lastIn}
+
+pub record Adds (c d : Counts) (rs : List Record) : Type 0 where
+  pub nodes : d .nodes ≡ c .nodes + countOf 2 rs
+  pub tx : d .tx ≡ c .tx + countOf 3 rs
+  pub rx : d .rx ≡ c .rx + countOf 4 rs
+  pub signals : d .signals ≡ c .signals + countOf 5 rs
+  pub destinations : d .destinations ≡ c .destinations + countOf 6 rs
+
+one : (c : Counts) (r : Record) → Whole r → (rs : List Record) (d : Counts) → Adds (counted c r) d rs → Adds c d (r ∷ rs)
+unfolding counted kindOf countOf pick
+one c r (head order) rs d a = omega arith
+one c r (node type) rs d a = omega arith
+one c r (tx-frame x) rs d a = omega arith
+one c r (rx-frame x) rs d a = omega arith
+one c r (signal p s) rs d a = omega arith
+one c r (destination t q) rs d a = omega arith
+
+pub adds : (rs : List Record) (s : State) → Each Whole rs → Adds (countsIn s) (countsIn (stateAfter s rs)) rs
+unfolding stateAfter Each countOf after
+adds [] s w = omega arith
+adds (r ∷ rs) s w = one (countsIn s) r (w .0) rs _ (adds rs (stepped s r) (w .1))
+
+pub number : (rs : List Record) (s : State) → stateAfter s rs .progress .number ≡ s .progress .number + length rs
+unfolding stateAfter after
+number [] s = sym (add-zero _)
+number (r ∷ rs) s = number rs (stepped s r) ∙ omega arith
+
+-- ---- the last record
+
+pub last-kind : (front : List Record) (y : Record) (s : State) → lastIn (stateAfter s (front ++ y ∷ [])) ≡ kindOf y
+unfolding stateAfter after
+last-kind [] y s = refl
+last-kind (x ∷ front) y s = last-kind front y (stepped s x)

@@ -1,0 +1,5 @@
+pub mod Bits
+pub mod Copies
+pub mod Clock
+pub mod Search
+pub mod Owners

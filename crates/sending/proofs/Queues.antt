@@ -1,0 +1,42 @@
+-- A node's queue in an area that holds a plan: who waits in it, each once, and never more than there is room for.
+use mathlib.Core.Path.{_≡_}
+use mathlib.Core.Logic.{_≢_}
+use mathlib.Core.List.{List, _++_}
+use Prim.Native.Nat.{ℕ, _<_, _≤_}
+use lib.ListN.{length, getD}
+use Rattle.base.specs.Numbers.{byteAt}
+use Rattle.plan.specs.Rows.{txOf}
+use Rattle.area.specs.Layout.{waits}
+use Rattle.area.specs.Queue.{endsOf, queueOf, Sound}
+use Rattle.tables.specs.Reads.{txAt, framesOn}
+
+-- the i-th oldest of the frames that wait on node n
+abbrev pub waiter : List ℕ → ℕ → ℕ → ℕ
+waiter a n i = getD (queueOf a n) i 0
+
+pub record Queue (plan a : List ℕ) (n : ℕ) : Type 0 where
+  -- its ring is its own, and its ends lie in it
+  pub sound : Sound (endsOf a n)
+  -- those that wait are Tx frames of node n, and are marked as waiting
+  pub frame : (i : ℕ) → i < length (queueOf a n) → waiter a n i < length (txOf plan)
+  pub node : (i : ℕ) → i < length (queueOf a n) → txAt plan (waiter a n i) .node ≡ n
+  pub marked : (i : ℕ) → i < length (queueOf a n) → byteAt a (waits (waiter a n i)) ≢ 0
+  -- no frame stands in it twice
+  pub once : (i j : ℕ) → i < j → j < length (queueOf a n) → waiter a n i ≢ waiter a n j
+  -- so there is always room for one more
+  pub few : length (queueOf a n) ≤ framesOn n (txOf plan)
+
+-- a frame of node n that is marked as waiting stands in its queue
+pub record Stands (a : List ℕ) (n t : ℕ) : Type 0 where
+  pub place : ℕ
+  pub within : place < length (queueOf a n)
+  pub there : waiter a n place ≡ t
+
+pub record Queues (plan a : List ℕ) : Type 0 where
+  pub queue : (n : ℕ) → n < 16 → Queue plan a n
+  pub stands : (t : ℕ) → t < length (txOf plan) → byteAt a (waits t) ≢ 0 → Stands a (txAt plan t .node) t
+
+-- what a change that only adds to a queue, at its end, makes of it
+pub record Grows (a b : List ℕ) (n : ℕ) : Type 0 where
+  pub new : List ℕ
+  pub then : queueOf b n ≡ queueOf a n ++ new

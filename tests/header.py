@@ -9,6 +9,7 @@ FILES = {
     'header': 'include/gateway.h',
     'reasons': 'crates/plan/specs/Refusals.antt',
     'answers': 'crates/answers/specs/Answers.antt',
+    'shortest': 'crates/plan/specs/Shortest.antt',
     'layout': 'crates/area/specs/Layout.antt',
     'tick': 'crates/ticking/specs/Tick.antt',
     'page': 'docs/REFUSALS.md',
@@ -62,8 +63,8 @@ def numbers_said(texts):
         said['GATEWAY_REFUSED_' + upper(name)] = int(number)
     for name, number in re.findall(r'^receivedNumber (\w+) = (\d+)$', texts['answers'], flags=re.M):
         said['GATEWAY_' + upper(name)] = int(number)
-    said['GATEWAY_AREA_SIZE'] = int(re.search(r'^marked a = pick \(leb (\d+) ', texts['layout'], flags=re.M).group(1))
-    said['GATEWAY_REPORT_SIZE'] = int(re.search(r'^rxCount a = twoAt a 10 % (\d+)$', texts['layout'], flags=re.M).group(1)) - 1
+    said['GATEWAY_AREA_SIZE'] = int(re.search(r'^shortestArea = (\d+)$', texts['shortest'], flags=re.M).group(1))
+    said['GATEWAY_REPORT_SIZE'] = int(re.search(r'^rxCount a = twoAt a rxCountBytes % (\d+)$', texts['layout'], flags=re.M).group(1)) - 1
     timeouts = re.search(r'^expiredReport a r = pick \(.*\) (\d) (\d)$', texts['tick'], flags=re.M)
     said['GATEWAY_LONG_TIMEOUT'], said['GATEWAY_SHORT_TIMEOUT'] = int(timeouts.group(1)), int(timeouts.group(2))
     return said
@@ -106,6 +107,7 @@ PLANTED = [
     ('another width in the source', 'source', 'id: u32', 'id: u64'),
     ('an argument more in the source', 'source', 'tx: usize)', 'tx: usize, rx: usize)'),
     ('a slice that is written in the source', 'source', 'plan: &[u8]', 'plan: &mut [u8]'),
+    ('another area size in the definitions', 'shortest', 'shortestArea = 32768', 'shortestArea = 32767'),
     ('another number in the definitions', 'answers', 'refusalNumber NotOpen = 11', 'refusalNumber NotOpen = 12'),
 ]
 

@@ -1,7 +1,7 @@
 #!/usr/bin/env bash
 # Each example plan of docs/REFUSALS.md is refused by the second program with the number and at the record that the page says.
 set -u
-CARGO_TARGET_DIR=$PWD/target/cargo cargo build --offline --quiet --manifest-path apart/second/Cargo.toml || exit 1
+CARGO_TARGET_DIR=$PWD/target/cargo cargo build --offline --quiet --manifest-path second/program/Cargo.toml || exit 1
 python3 - target/cargo/debug/second <<'P' || exit 1
 import re, subprocess, sys
 tried = 0

@@ -1,4 +1,4 @@
--- What an event does to one claim, by what the claim is; and that neither the event's Rx number nor the claim's counts. Assumes nothing.
+-- What an event does to one claim, by what the claim is; and that neither the event's Rx number nor the claim's counts.
 use mathlib.Core.Path.{_≡_, refl, ap, _∙_}
 use mathlib.Core.List.{List, [], _∷_}
 use Prim.Native.Nat.{ℕ, _%_, _<_, _≤_}
@@ -6,7 +6,7 @@ use native.Mathlib.Omega.{arith}
 use Rattle.bits.specs.Payload.{setBit}
 use Rattle.plan.specs.Rows.{Source, copy, failure, widthOf, Claim}
 use Rattle.area.specs.Layout.{spot}
-use Rattle.area.specs.Claims.{Event, accepted, expired, doneBy, sentBy, done, allDone}
+use Rattle.area.specs.Claims.{RxEvent, accepted, expired, doneBy, sentBy, done, allDone}
 use Rattle.area.proofs.Frame.{Narrow}
 
 abbrev pub claimOf : ℕ → ℕ → ℕ → Source → Claim
@@ -29,30 +29,30 @@ module _ (o r : ℕ) (a : List ℕ) (n tx q : ℕ) where
 
 -- ---- whose event it is, and whose claim
 
-pub done-rx : (o : ℕ) (e : Event) (a : List ℕ) (n m tx q : ℕ) (s : Source) → done o e a (claimOf n tx q s) ≡ done o e a (claimOf m tx q s)
+pub done-rx : (o : ℕ) (e : RxEvent) (a : List ℕ) (n m tx q : ℕ) (s : Source) → done o e a (claimOf n tx q s) ≡ done o e a (claimOf m tx q s)
 unfolding done
 done-rx o e a n m tx q s = refl
 
 -- the event, as one of Rx frame n
-abbrev pub numbered : ℕ → Event → Event
+abbrev pub numbered : ℕ → RxEvent → RxEvent
 numbered n (accepted r pl) = accepted n pl
 numbered n (expired r) = expired n
 
 module _ (o n : ℕ) where
-  pub done-numbered : (e : Event) (a : List ℕ) (c : Claim) → done o (numbered n e) a c ≡ done o e a c
+  pub done-numbered : (e : RxEvent) (a : List ℕ) (c : Claim) → done o (numbered n e) a c ≡ done o e a c
   unfolding done doneBy sentBy
   done-numbered e a c = go e (c .from)
     where
-      to : Event → Source → List ℕ
+      to : RxEvent → Source → List ℕ
       to e s = sentBy o e a (doneBy o e a (spot (c .tx % 256) (c .at)) s) (c .tx % 256) (spot (c .tx % 256) (c .at)) s
 
-      go : (e : Event) (s : Source) → to (numbered n e) s ≡ to e s
+      go : (e : RxEvent) (s : Source) → to (numbered n e) s ≡ to e s
       go (accepted r pl) (copy p s) = refl
       go (accepted r pl) failure = refl
       go (expired r) (copy p s) = refl
       go (expired r) failure = refl
 
-  pub allDone-numbered : (e : Event) (cs : List Claim) (a : List ℕ) → allDone o (numbered n e) cs a ≡ allDone o e cs a
+  pub allDone-numbered : (e : RxEvent) (cs : List Claim) (a : List ℕ) → allDone o (numbered n e) cs a ≡ allDone o e cs a
   unfolding allDone
   allDone-numbered e [] a = refl
   allDone-numbered e (c ∷ cs) a = allDone-numbered e cs _ ∙ ap (allDone o e cs) (done-numbered e a c)

@@ -1,5 +1,5 @@
 -- What a change of an area leaves: its length, and each byte at a place of P. One law for each definition, over any P that does not name a place
--- that the definition writes. Assumes nothing.
+-- that the definition writes.
 use mathlib.Core.Path.{_≡_, refl, _∙_}
 use mathlib.Core.Bool.{Bool}
 use mathlib.Core.List.{List, [], _∷_}
@@ -14,9 +14,9 @@ use Rattle.base.proofs.Picks.{both}
 use Rattle.bits.specs.Payload.{bitAt, setBit, copied}
 use Rattle.plan.specs.Rows.{Source, copy, failure, widthOf, Claim}
 use Rattle.area.specs.declared.queue.Ends.{Ends}
-use Rattle.area.specs.Layout.{queue, waits, txTimer, spot}
+use Rattle.area.specs.Layout.{txTimersStart, fullStart, entriesStart, payloadsStart, planStart, queue, waits, txTimer, spot}
 use Rattle.area.specs.Queue.{slot, setEnds, queued, scheduled, oldest, dequeued}
-use Rattle.area.specs.Claims.{Event, accepted, expired, sentIf, doneBy, sentBy, done, allDone}
+use Rattle.area.specs.Claims.{RxEvent, accepted, expired, sentIf, doneBy, sentBy, done, allDone}
 
 pub record Same (P : ℕ → Type 0) (a b : List ℕ) : Type 0 where
   pub len : length b ≡ length a
@@ -80,7 +80,7 @@ NoEnds P n = (j : ℕ) → queue n + 4 ≤ j → j < queue n + 8 → P j → ⊥
 
 -- nor a ring entry
 abbrev pub NoRing : (ℕ → Type 0) → Type 0
-NoRing P = (j : ℕ) → 5328 ≤ j → j < 6384 → P j → ⊥
+NoRing P = (j : ℕ) → entriesStart ≤ j → j < payloadsStart → P j → ⊥
 
 module _ {P : ℕ → Type 0} where
   pub same-setEnds : {a b : List ℕ} (n : ℕ) (e : Ends) → NoEnds P n → Same P a b → Same P a (setEnds b n e)
@@ -128,7 +128,7 @@ Each Q (c ∷ cs) = Q c × Each Q cs
 
 module _ {P : ℕ → Type 0} (ends : (n : ℕ) → n < 16 → NoEnds P n) (ring : NoRing P) where
   same-doneBy :
-      (o : ℕ) (e : Event) (a : List ℕ) (place : ℕ) (s : Source) → ((k : ℕ) → k < widthOf s → P ((place + k) / 8) → ⊥)
+      (o : ℕ) (e : RxEvent) (a : List ℕ) (place : ℕ) (s : Source) → ((k : ℕ) → k < widthOf s → P ((place + k) / 8) → ⊥)
       → Same P a (doneBy o e a place s)
   unfolding doneBy widthOf
   same-doneBy o (accepted r pl) a place (copy p s) never = same-copied o _ _ s place never (same-refl a)
@@ -137,7 +137,7 @@ module _ {P : ℕ → Type 0} (ends : (n : ℕ) → n < 16 → NoEnds P n) (ring
   same-doneBy o (expired r) a place failure never = same-setBit o place _ (λ p. never 0 (omega arith) (rw add-zero p)) (same-refl a)
 
   same-sentBy :
-      (o : ℕ) (e : Event) (a b : List ℕ) (t place : ℕ) (s : Source) → (P (waits t) → ⊥) → (P (txTimer t + 1) → ⊥)
+      (o : ℕ) (e : RxEvent) (a b : List ℕ) (t place : ℕ) (s : Source) → (P (waits t) → ⊥) → (P (txTimer t + 1) → ⊥)
       → Same P b (sentBy o e a b t place s)
   unfolding sentBy
   same-sentBy o (accepted r pl) a b t place (copy p s) never timer = same-sentIf ends ring _ _ b t never timer
@@ -145,25 +145,25 @@ module _ {P : ℕ → Type 0} (ends : (n : ℕ) → n < 16 → NoEnds P n) (ring
   same-sentBy o (expired r) a b t place (copy p s) never timer = same-refl b
   same-sentBy o (expired r) a b t place failure never timer = same-refl b
 
-  pub same-done : (o : ℕ) (e : Event) (a : List ℕ) (c : Claim) → Off P c → Same P a (done o e a c)
+  pub same-done : (o : ℕ) (e : RxEvent) (a : List ℕ) (c : Claim) → Off P c → Same P a (done o e a c)
   unfolding done
   same-done o e a c off =
       same-then (same-doneBy o e a _ (c .from) (off .bits)) (same-sentBy o e a _ _ _ (c .from) (off .wait) (off .timer))
 
-  pub same-allDone : (o : ℕ) (e : Event) (cs : List Claim) (a : List ℕ) → Each (Off P) cs → Same P a (allDone o e cs a)
+  pub same-allDone : (o : ℕ) (e : RxEvent) (cs : List Claim) (a : List ℕ) → Each (Off P) cs → Same P a (allDone o e cs a)
   unfolding allDone
   same-allDone o e [] a off = same-refl a
   same-allDone o e (c ∷ cs) a off = same-then (same-done o e a c (off .0)) (same-allDone o e cs _ (off .1))
 
 -- ---- all of them at once, for a P that names no place that any of them writes
 
--- P: outside the ends of the queues, 208 to 1999 (timers, counts, waits) and 5328 to 8959 (entries, payloads, masks)
+-- P: outside the ends of the queues, the timers, long counters and waits, and the entries, payloads and masks
 pub record Spared (P : ℕ → Type 0) : Type 0 where
   pub ends : (n : ℕ) → n < 16 → NoEnds P n
-  pub low : (j : ℕ) → 208 ≤ j → j < 2000 → P j → ⊥
-  pub high : (j : ℕ) → 5328 ≤ j → j < 8960 → P j → ⊥
+  pub low : (j : ℕ) → txTimersStart ≤ j → j < fullStart → P j → ⊥
+  pub high : (j : ℕ) → entriesStart ≤ j → j < planStart → P j → ⊥
 
--- a claim as a plan of bytes states it: its bits may run past its Tx frame's payload, and end before 8960
+-- a claim as a plan of bytes states it: its bits may run past its Tx frame's payload, and end before the plan
 pub record Narrow (c : Claim) : Type 0 where
   pub at : c .at < 256
   pub width : widthOf (c .from) ≤ 256
@@ -198,10 +198,10 @@ module _ {P : ℕ → Type 0} (f : Spared P) where
         timer = f .low _ (omega arith) (omega arith);
       }
 
-  pub spared-done : (o : ℕ) (e : Event) (a : List ℕ) (c : Claim) → Narrow c → Same P a (done o e a c)
+  pub spared-done : (o : ℕ) (e : RxEvent) (a : List ℕ) (c : Claim) → Narrow c → Same P a (done o e a c)
   spared-done o e a c n = same-done (f .ends) ring o e a c (spared-off c n)
 
-  pub spared-allDone : (o : ℕ) (e : Event) (cs : List Claim) (a : List ℕ) → Each Narrow cs → Same P a (allDone o e cs a)
+  pub spared-allDone : (o : ℕ) (e : RxEvent) (cs : List Claim) (a : List ℕ) → Each Narrow cs → Same P a (allDone o e cs a)
   unfolding allDone
   spared-allDone o e [] a n = same-refl a
   spared-allDone o e (c ∷ cs) a n = same-then (spared-done o e a c (n .0)) (spared-allDone o e cs _ (n .1))

@@ -1,5 +1,5 @@
 -- What no call after the opening changes: the header but its counter, the nodes, where each queue's ring lies, the tables of the frames, and the
--- plan. Hence what is read from them is the same after as before, on any area. Assumes nothing.
+-- plan. Hence what is read from them is the same after as before, on any area.
 use mathlib.Core.Path.{_≡_, refl}
 use mathlib.Core.Bool.{Bool}
 use mathlib.Core.List.{List}
@@ -9,22 +9,24 @@ use lib.ListN.{set}
 use Rattle.base.specs.Numbers.{byteAt, twoAt}
 use Rattle.bits.specs.Payload.{setBit}
 use Rattle.plan.specs.Rows.{Claim}
-use Rattle.area.specs.Layout.{queue, txPlace, row, spot, marked, counter, order, nodeCount, txCount, rxCount, planOf, txFrame, rxFrame, claims}
+use Rattle.area.specs.Layout.{counterByte, orderByte, planLengthBytes, nodeCountByte, txCountBytes, rxCountBytes}
+use Rattle.area.specs.Layout.{queuesStart, txTimersStart, fullStart, entriesStart, planStart, queue, txPlace, row, spot}
+use Rattle.area.specs.Layout.{marked, counter, order, nodeCount, txCount, rxCount, rxRecordPlace, planOf, txFrame, rxFrame, claims}
 use Rattle.area.specs.Queue.{endsOf, queued, scheduled, dequeued}
-use Rattle.area.specs.Claims.{Event, sentIf, done, allDone}
-use Rattle.area.proofs.Frame.{Same, same-refl, same-then, same-set, same-two, same-tail, Spared, Narrow, Each, spared-spot, spared-queued, spared-dequeued, spared-scheduled, spared-sentIf, spared-done, spared-allDone}
+use Rattle.area.specs.Claims.{RxEvent, sentIf, done, allDone}
+use Rattle.area.proofs.Frame.{Same, same-refl, same-then, same-set, same-two, same-tail, Spared, Narrow, Each}
+use Rattle.area.proofs.Frame.{spared-spot, spared-queued, spared-dequeued, spared-scheduled, spared-sentIf, spared-done, spared-allDone}
 
--- ---- the places, by what they are not: an end of a queue, a timer, a count or a wait (208 to 1999), a ring entry, a payload or a mask (5328 to
--- 8959), the counter
+-- ---- the places, by what they are not: an end of a queue, a timer, a long counter or a wait, a ring entry, a payload or a mask, the counter
 
 pub record Planned (j : ℕ) : Type 0 where
   pub ends : (n : ℕ) → n < 16 → queue n + 4 ≤ j → j < queue n + 8 → ⊥
-  pub low : 208 ≤ j → j < 2000 → ⊥
-  pub high : 5328 ≤ j → j < 8960 → ⊥
-  pub count : j ≡ 2 → ⊥
+  pub low : txTimersStart ≤ j → j < fullStart → ⊥
+  pub high : entriesStart ≤ j → j < planStart → ⊥
+  pub count : j ≡ counterByte → ⊥
 
 -- the header and the nodes
-pub in-header : (j : ℕ) → j < 80 → (j ≡ 2 → ⊥) → Planned j
+pub in-header : (j : ℕ) → j < queuesStart → (j ≡ counterByte → ⊥) → Planned j
 in-header j h d = record { ends = λ n l x y. omega arith; low = λ x y. omega arith; high = λ x y. omega arith; count = d }
 
 -- where a ring begins, and its room
@@ -33,11 +35,11 @@ in-queue n j h l m =
     record { ends = λ i k x y. omega arith; low = λ x y. omega arith; high = λ x y. omega arith; count = λ e. omega arith }
 
 -- fullness, Tx places, rows
-pub in-tables : (j : ℕ) → 2000 ≤ j → j < 5328 → Planned j
+pub in-tables : (j : ℕ) → fullStart ≤ j → j < entriesStart → Planned j
 in-tables j h l =
     record { ends = λ n k x y. omega arith; low = λ x y. omega arith; high = λ x y. omega arith; count = λ e. omega arith }
 
-pub in-plan : (j : ℕ) → 8960 ≤ j → Planned j
+pub in-plan : (j : ℕ) → planStart ≤ j → Planned j
 in-plan j h = record { ends = λ n k x y. omega arith; low = λ x y. omega arith; high = λ x y. omega arith; count = λ e. omega arith }
 
 -- ---- what keeps them
@@ -55,14 +57,14 @@ pub kept-then : {a b c : List ℕ} → Kept a b → Kept b c → Kept a c
 kept-then = same-then
 
 -- a store at a timer, a count or a wait; at an entry, a payload or a mask; at the counter
-pub kept-low : {a b : List ℕ} (i v : ℕ) → 208 ≤ i → i < 2000 → Kept a b → Kept a (set b i v)
+pub kept-low : {a b : List ℕ} (i v : ℕ) → txTimersStart ≤ i → i < fullStart → Kept a b → Kept a (set b i v)
 kept-low i v l m = same-set i v (λ p. p .low l m)
 
-pub kept-high : {a b : List ℕ} (i v : ℕ) → 5328 ≤ i → i < 8960 → Kept a b → Kept a (set b i v)
+pub kept-high : {a b : List ℕ} (i v : ℕ) → entriesStart ≤ i → i < planStart → Kept a b → Kept a (set b i v)
 kept-high i v l m = same-set i v (λ p. p .high l m)
 
-pub kept-count : {a b : List ℕ} (v : ℕ) → Kept a b → Kept a (set b 2 v)
-kept-count v = same-set 2 v (λ p. p .count refl)
+pub kept-count : {a b : List ℕ} (v : ℕ) → Kept a b → Kept a (set b counterByte v)
+kept-count v = same-set counterByte v (λ p. p .count refl)
 
 pub kept-spot : (o : ℕ) {a b : List ℕ} (t q v : ℕ) → t < 256 → q < 256 → Kept a b → Kept a (setBit o b (spot t q) v)
 kept-spot = spared-spot planned
@@ -79,42 +81,42 @@ kept-scheduled = spared-scheduled planned
 pub kept-sentIf : (flags : ℕ) (changed : Bool) (a : List ℕ) (t : ℕ) → t < 256 → Kept a (sentIf flags changed a t)
 kept-sentIf = spared-sentIf planned
 
-pub kept-done : (o : ℕ) (e : Event) (a : List ℕ) (c : Claim) → Narrow c → Kept a (done o e a c)
+pub kept-done : (o : ℕ) (e : RxEvent) (a : List ℕ) (c : Claim) → Narrow c → Kept a (done o e a c)
 kept-done = spared-done planned
 
-pub kept-allDone : (o : ℕ) (e : Event) (cs : List Claim) (a : List ℕ) → Each Narrow cs → Kept a (allDone o e cs a)
+pub kept-allDone : (o : ℕ) (e : RxEvent) (cs : List Claim) (a : List ℕ) → Each Narrow cs → Kept a (allDone o e cs a)
 kept-allDone = spared-allDone planned
 
 -- ---- the counter, which only a tick moves
 
-moves : Spared (λ j. j ≡ 2)
+moves : Spared (λ j. j ≡ counterByte)
 moves = record { ends = λ n h j l m p. omega arith; low = λ j l m p. omega arith; high = λ j l m p. omega arith }
 
 pub counter-queued : (a : List ℕ) (n t : ℕ) → n < 16 → counter (queued a n t) ≡ counter a
-counter-queued a n t h = spared-queued moves a n t h .at 2 refl
+counter-queued a n t h = spared-queued moves a n t h .at counterByte refl
 
 pub counter-dequeued : (a : List ℕ) (n : ℕ) → n < 16 → counter (dequeued a n) ≡ counter a
-counter-dequeued a n h = spared-dequeued moves a n h .at 2 refl
+counter-dequeued a n h = spared-dequeued moves a n h .at counterByte refl
 
 pub counter-scheduled : (a : List ℕ) (t : ℕ) → t < 256 → counter (scheduled a t) ≡ counter a
-counter-scheduled a t h = spared-scheduled moves a t h .at 2 refl
+counter-scheduled a t h = spared-scheduled moves a t h .at counterByte refl
 
-pub counter-done : (o : ℕ) (e : Event) (a : List ℕ) (c : Claim) → Narrow c → counter (done o e a c) ≡ counter a
-counter-done o e a c n = spared-done moves o e a c n .at 2 refl
+pub counter-done : (o : ℕ) (e : RxEvent) (a : List ℕ) (c : Claim) → Narrow c → counter (done o e a c) ≡ counter a
+counter-done o e a c n = spared-done moves o e a c n .at counterByte refl
 
-pub counter-allDone : (o : ℕ) (e : Event) (cs : List Claim) (a : List ℕ) → Each Narrow cs → counter (allDone o e cs a) ≡ counter a
-counter-allDone o e cs a n = spared-allDone moves o e cs a n .at 2 refl
+pub counter-allDone : (o : ℕ) (e : RxEvent) (cs : List Claim) (a : List ℕ) → Each Narrow cs → counter (allDone o e cs a) ≡ counter a
+counter-allDone o e cs a n = spared-allDone moves o e cs a n .at counterByte refl
 
 -- ---- what is read there
 
 module _ {a b : List ℕ} (k : Kept a b) where
-  header : (j : ℕ) → j < 80 → (j ≡ 2 → ⊥) → byteAt b j ≡ byteAt a j
+  header : (j : ℕ) → j < queuesStart → (j ≡ counterByte → ⊥) → byteAt b j ≡ byteAt a j
   header j h d = k .at j (in-header j h d)
 
-  two : (j : ℕ) → 2 < j → j < 79 → twoAt b j ≡ twoAt a j
+  two : (j : ℕ) → counterByte < j → j + 1 < queuesStart → twoAt b j ≡ twoAt a j
   two j h l = same-two k j (in-header j (omega arith) (λ e. omega arith)) (in-header (j + 1) (omega arith) (λ e. omega arith))
 
-  table : (j : ℕ) → 2000 ≤ j → j < 5327 → twoAt b j ≡ twoAt a j
+  table : (j : ℕ) → fullStart ≤ j → j + 1 < entriesStart → twoAt b j ≡ twoAt a j
   table j h l = same-two k j (in-tables j h (omega arith)) (in-tables (j + 1) (omega arith) (omega arith))
 
   pub marked-kept : marked b ≡ marked a
@@ -122,16 +124,16 @@ module _ {a b : List ℕ} (k : Kept a b) where
   marked-kept = rw (k .len, header 0 (omega arith) (λ e. omega arith), header 1 (omega arith) (λ e. omega arith))
 
   pub order-kept : order b ≡ order a
-  order-kept = header 3 (omega arith) (λ e. omega arith)
+  order-kept = header orderByte (omega arith) (λ e. omega arith)
 
   pub nodeCount-kept : nodeCount b ≡ nodeCount a
-  nodeCount-kept = rw (header 6 (omega arith) (λ e. omega arith))
+  nodeCount-kept = rw (header nodeCountByte (omega arith) (λ e. omega arith))
 
   pub txCount-kept : txCount b ≡ txCount a
-  txCount-kept = rw (two 8 (omega arith) (omega arith))
+  txCount-kept = rw (two txCountBytes (omega arith) (omega arith))
 
   pub rxCount-kept : rxCount b ≡ rxCount a
-  rxCount-kept = rw (two 10 (omega arith) (omega arith))
+  rxCount-kept = rw (two rxCountBytes (omega arith) (omega arith))
 
   -- where node n's ring begins, and its room
   pub start-kept : (n : ℕ) → n < 16 → endsOf b n .start ≡ endsOf a n .start
@@ -145,14 +147,14 @@ module _ {a b : List ℕ} (k : Kept a b) where
 
   pub planOf-kept : planOf b ≡ planOf a
   unfolding planOf
-  planOf-kept = rw (two 4 (omega arith) (omega arith), same-tail 8960 k in-plan)
+  planOf-kept = rw (two planLengthBytes (omega arith) (omega arith), same-tail planStart k in-plan)
 
   pub txFrame-kept : (t : ℕ) → t < 256 → txFrame b t ≡ txFrame a t
   unfolding txFrame
   txFrame-kept t h = rw (planOf-kept, table (txPlace t) (omega arith) (omega arith))
 
   module _ (r : ℕ) (h : r < 256) where
-    place : twoAt b (row r + 4) ≡ twoAt a (row r + 4)
+    place : rxRecordPlace b r ≡ rxRecordPlace a r
     place = table (row r + 4) (omega arith) (omega arith)
 
     pub rxFrame-kept : rxFrame b r ≡ rxFrame a r

@@ -1,4 +1,3 @@
-pub mod Variants
 pub mod Frame
 pub mod Kept
 pub mod ClaimLaws

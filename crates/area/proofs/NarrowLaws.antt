@@ -1,18 +1,21 @@
--- The claims of an area of bytes are narrow, whatever stands there: a position and a size are one byte each. Assumes nothing.
+-- The claims of an area of bytes are narrow, whatever stands there: a position and a size are one byte each.
+use mathlib.Core.Path.{sym, subst}
 use mathlib.Core.List.{List, [], _∷_}
 use mathlib.Core.Option.{Option, none, some}
 use Prim.Native.Nat.{ℕ, zero, suc, _+_, _%_, _<_}
 use native.Mathlib.Omega.{arith}
 use lib.ListN.{take, drop}
 use lib.Seq.{getD-drop}
-use Rattle.base.specs.Numbers.{twoAt}
 use Rattle.base.proofs.Picks.{both}
 use Rattle.bits.proofs.PayloadLaws.{Bytes}
 use Rattle.records.specs.declared.record.Record.{Record}
-use Rattle.records.specs.declared.record.Record.the-variants.{Head, Node, Tx, Rx, Signal, Destination, BadKind, Cut, End}
-use Rattle.records.specs.Records.{rxAt, fieldsAt, recordAt, recordsFrom, recordsAt}
+use Rattle.records.specs.Views.{onSignal, onDestination, asRx}
+use Rattle.records.specs.Kinds.{rxAt}
+use Rattle.records.specs.Records.{recordAt, recordsFrom, recordsAt}
+use Rattle.records.proofs.RecordLaws.{by-record, rx-there}
+use Rattle.records.proofs.Variants.{by-row}
 use Rattle.plan.specs.Rows.{Claim, withFailure, claimsFrom, awaited}
-use Rattle.area.specs.Layout.{asRx, planOf, rxFrame, claims}
+use Rattle.area.specs.Layout.{planStart, planLength, planOf, rxFrame, claims}
 use Rattle.area.proofs.Frame.{Each, Narrow}
 use Rattle.area.proofs.ClaimLaws.{narrow-copy, narrow-failure}
 
@@ -26,46 +29,25 @@ bytes-take (suc n) (x ∷ l) b (suc i) = bytes-take n l (λ j. b (suc j)) i
 
 pub bytes-plan : (a : List ℕ) → Bytes a → Bytes (planOf a)
 unfolding planOf
-bytes-plan a b = bytes-take (twoAt a 4 % 23809) (drop 8960 a) (λ i. rw (getD-drop 8960 a i 0) (b (8960 + i)))
+bytes-plan a b = bytes-take (planLength a) (drop planStart a) (λ i. rw (getD-drop planStart a i 0) (b (planStart + i)))
 
 -- ---- a record of bytes
 
 unfoldable Small : Record → Type 0
-Small (Signal p s) = s < 256
-Small (Destination t q) = q < 256
-Small (Head o) = Unit {0}
-Small (Node k) = Unit {0}
-Small (Tx x) = Unit {0}
-Small (Rx x) = Unit {0}
-Small BadKind = Unit {0}
-Small (Cut k) = Unit {0}
-Small End = Unit {0}
+Small r = onSignal (onDestination (Unit {0}) (λ body. body .position < 256) r) (λ body. body .size < 256) r
 
 abbrev Within : Option ℕ → Type 0
 Within none = Unit {0}
 Within (some q) = q < 256
 
 module _ (plan : List ℕ) (b : Bytes plan) where
-  -- what holds of each variant that a byte of the plan makes holds of the record at a place
   small-at : (at : ℕ) → Small (recordAt plan at)
-  unfolding recordAt fieldsAt Small
-  small-at at =
-      both Small _ _ _ tt
-      (both Small _ _ _ tt
-      (both Small _ _ _ tt
-      (both Small _ _ _ tt
-      (both Small _ _ _ tt
-      (both Small _ _ _ tt (both Small _ _ _ tt (both Small _ _ _ (b (at + 2)) (both Small _ _ _ (b (at + 3)) tt))))))))
+  unfolding Small
+  small-at at = by-record Small plan at (λ fault. tt) tt tt tt tt (b (at + 2)) (b (at + 3))
 
   position-at : (at : ℕ) → asRx (recordAt plan at) .position < 256
-  unfolding recordAt fieldsAt rxAt asRx
-  position-at at =
-      let P : Record → Type 0 = λ r. asRx r .position < 256 in
-      let z : _<_ 0 256 = omega arith in
-      both P _ _ _ z
-      (both P _ _ _ z
-      (both P _ _ _ z
-      (both P _ _ _ z (both P _ _ _ z (both P _ _ _ z (both P _ _ _ (b (at + 9)) (both P _ _ _ z (both P _ _ _ z z))))))))
+  unfolding rxAt
+  position-at at = rx-there (λ x. x .position < 256) plan at (omega arith) (b (at + 9))
 
   small-from : (bound at : ℕ) → Each Small (recordsFrom bound plan at)
   unfolding recordsFrom
@@ -82,16 +64,11 @@ narrow-with n (some q) tx cs h e = (narrow-failure n tx q h, e)
 narrow-from : (n : ℕ) (w : Option ℕ) (p s : ℕ) (rs : List Record) → Within w → s < 256 → Each Small rs → Each Narrow (claimsFrom n w p s rs)
 unfolding claimsFrom Small
 narrow-from n w p s [] h l e = tt
-narrow-from n w p s (Signal p′ s′ ∷ rs) h l e = narrow-from n w p′ s′ rs h (e .0) (e .1)
-narrow-from n w p s (Destination t q ∷ rs) h l e =
-    narrow-with n w (t .0) _ h (narrow-copy n (t .0) q (e .0) p s (omega arith), narrow-from n none p s rs tt l (e .1))
-narrow-from n w p s (Head o ∷ rs) h l e = tt
-narrow-from n w p s (Node k ∷ rs) h l e = tt
-narrow-from n w p s (Tx x ∷ rs) h l e = tt
-narrow-from n w p s (Rx x ∷ rs) h l e = tt
-narrow-from n w p s (BadKind ∷ rs) h l e = tt
-narrow-from n w p s (Cut k ∷ rs) h l e = tt
-narrow-from n w p s (End ∷ rs) h l e = tt
+narrow-from n w p s (r ∷ rs) h l e =
+    by-row (λ r. Small r → Each Narrow (claimsFrom n w p s (r ∷ rs))) (λ x f. tt) (λ body f. narrow-from n w (body .position) (body .size) rs h f (e .1))
+    (λ body f. narrow-with n w (body .tx .0) _ h
+    (narrow-copy n (body .tx .0) (body .position) f p s (omega arith), narrow-from n none p s rs tt l (e .1)))
+    (λ r no f. subst (Each Narrow) (sym (no .by _ _ _ _)) tt) r (e .0)
 
 pub narrow-claims : (a : List ℕ) (r : ℕ) → Bytes a → Each Narrow (claims a r)
 unfolding claims rxFrame recordsAt awaited

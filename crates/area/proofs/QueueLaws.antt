@@ -1,4 +1,4 @@
--- A node's queue as a list, the oldest first: a frame joins at the end, the oldest leaves, and every other node's queue stays. Assumes nothing.
+-- A node's queue as a list, the oldest first: a frame joins at the end, the oldest leaves, and every other node's queue stays.
 use mathlib.Core.Path.{_≡_, refl, ap, _∙_}
 use mathlib.Core.Logic.{_≢_, _⊎_, inl, inr, ⊎-elim}
 use mathlib.Core.List.{List, [], _∷_, _++_}
@@ -13,7 +13,7 @@ use lib.Seq.{getD-set-same, getD-set-other}
 use Rattle.base.specs.Numbers.{byteAt, twoAt, setTwo}
 use Rattle.base.proofs.Picks.{picks, passes}
 use Rattle.area.specs.declared.queue.Ends.{Ends}
-use Rattle.area.specs.Layout.{queue, waits, txTimer, txFrame}
+use Rattle.area.specs.Layout.{queuesStart, txTimersStart, entriesStart, payloadsStart, entryCount, LongEnough, queue, entry, waits, txTimer, txFrame}
 use Rattle.area.specs.Queue.{endsOf, slot, added, removed, setEnds, queued, scheduled, oldest, dequeued, entries, queueOf, Sound, Apart}
 use Rattle.area.proofs.Frame.{Same, same-refl, same-two, same-set, same-setTwo, same-setEnds, same-queued, same-dequeued}
 
@@ -93,7 +93,7 @@ ends-same n s =
     )
 
 ends-setEnds :
-    (b : List ℕ) (n : ℕ) (f : Ends) → n < 16 → 32768 ≤ length b → f .first < 65536 → f .waiting < 65536
+    (b : List ℕ) (n : ℕ) (f : Ends) → n < 16 → LongEnough b → f .first < 65536 → f .waiting < 65536
     → endsOf (setEnds b n f) n ≡ record { start = endsOf b n .start; room = endsOf b n .room; first = f .first; waiting = f .waiting }
 unfolding endsOf setEnds
 ends-setEnds b n f hn hb h l =
@@ -129,7 +129,7 @@ turned f i k room h l m e =
     (wrap f i room h (omega arith))
 
 -- and their entries have no common byte
-far : (start x y p q : ℕ) → p ≡ 5328 + 2 * (start + x) → q ≡ 5328 + 2 * (start + y) → p ≢ q → (p + 2 ≤ q) ⊎ (q + 2 ≤ p)
+far : (start x y p q : ℕ) → p ≡ entry (start + x) → q ≡ entry (start + y) → p ≢ q → (p + 2 ≤ q) ⊎ (q + 2 ≤ p)
 far start x y p q e f d = go (decLt p q)
   where
     go : Dec (p < q) → (p + 2 ≤ q) ⊎ (q + 2 ≤ p)
@@ -137,11 +137,11 @@ far start x y p q e f d = go (decLt p q)
     go (no l) = inr (omega (arith, d))
 
 -- every entry lies among the entries
-slot-low : (e : Ends) (k : ℕ) → 5328 ≤ slot e k
+slot-low : (e : Ends) (k : ℕ) → entriesStart ≤ slot e k
 unfolding slot
 slot-low e k = omega arith
 
-slot-high : (e : Ends) (k : ℕ) → slot e k + 2 ≤ 6384
+slot-high : (e : Ends) (k : ℕ) → slot e k + 2 ≤ payloadsStart
 unfolding slot
 slot-high e k = omega arith
 
@@ -149,10 +149,10 @@ module _ (e : Ends) (s : Sound e) where
   within : (k : ℕ) → (e .first + k) % e .room < e .room
   within k = mod-lt (e .first + k) (omega (arith, s .first))
 
-  slot-is : (k : ℕ) → slot e k ≡ 5328 + 2 * (e .start + (e .first + k) % e .room)
+  slot-is : (k : ℕ) → slot e k ≡ entry (e .start + (e .first + k) % e .room)
   unfolding slot
   slot-is k =
-      let l : e .start + (e .first + k) % e .room < 528 = omega (arith, within k, s .ring) in
+      let l : e .start + (e .first + k) % e .room < entryCount = omega (arith, within k, s .ring) in
       rw (mod-eq-of-lt l)
 
 -- ---- a queue that nothing moves
@@ -165,7 +165,8 @@ queue-alike a b n e h = rw e (entries-alike a b (endsOf a n) (endsOf a n) 0 0 (e
 
 -- a change that leaves the records of the queues and their rings
 pub queue-same :
-    {P : ℕ → Type 0} {a b : List ℕ} → ((j : ℕ) → 80 ≤ j → j < 208 → P j) → ((j : ℕ) → 5328 ≤ j → j < 6384 → P j) → Same P a b → (n : ℕ) → n < 16
+    {P : ℕ → Type 0} {a b : List ℕ} → ((j : ℕ) → queuesStart ≤ j → j < txTimersStart → P j)
+    → ((j : ℕ) → entriesStart ≤ j → j < payloadsStart → P j) → Same P a b → (n : ℕ) → n < 16
     → queueOf b n ≡ queueOf a n
 queue-same {P} {a} {b} records rings s n h =
     queue-alike a b n
@@ -177,13 +178,13 @@ queue-same {P} {a} {b} records rings s n h =
 
 -- ---- joining
 
-module _ (a : List ℕ) (n t : ℕ) (hn : n < 16) (ha : 32768 ≤ length a) (s : Sound (endsOf a n)) where
+module _ (a : List ℕ) (n t : ℕ) (hn : n < 16) (ha : LongEnough a) (s : Sound (endsOf a n)) where
   -- where t goes
   abbrev at : ℕ
   at = slot (endsOf a n) (endsOf a n .waiting)
 
   -- what joining leaves beside the place that t goes to
-  beside : (j : ℕ) → 208 ≤ j → (j + 2 ≤ at) ⊎ (at + 2 ≤ j) → twoAt (queued a n t) j ≡ twoAt a j
+  beside : (j : ℕ) → txTimersStart ≤ j → (j + 2 ≤ at) ⊎ (at + 2 ≤ j) → twoAt (queued a n t) j ≡ twoAt a j
   unfolding queued
   beside j l d =
       two-kept j (same-setEnds n _ (λ k x y p. omega arith) (aside at t j d (same-refl a)))
@@ -259,7 +260,7 @@ module _ (a : List ℕ) (n : ℕ) (hn : n < 16) where
   pub queue-dequeued-other : (m : ℕ) → m < 16 → m ≢ n → queueOf (dequeued a n) m ≡ queueOf a m
   queue-dequeued-other m hm d = queue-alike a (dequeued a n) m (ends-dequeued-other m hm d) (rings (endsOf a m))
 
-  module _ (ha : 32768 ≤ length a) (s : Sound (endsOf a n)) where
+  module _ (ha : LongEnough a) (s : Sound (endsOf a n)) where
     pub ends-dequeued : endsOf (dequeued a n) n ≡ removed (endsOf a n)
     unfolding dequeued removed oldest
     ends-dequeued =

@@ -10,9 +10,9 @@ use Rattle.area.specs.Layout.{spot, txFrame}
 use Rattle.area.specs.Queue.{scheduled}
 
 -- what happens to an Rx frame: a payload is accepted, or its timer expires
-pub data Event : Type 0 where
-  accepted : ℕ → List ℕ → Event
-  expired : ℕ → Event
+pub data RxEvent : Type 0 where
+  accepted : ℕ → List ℕ → RxEvent
+  expired : ℕ → RxEvent
 
 -- "the Tx frame is scheduled if flag 1 is set, or flag 2 is set and any destination bit differed from the kept one"
 unfoldable pub sentIf : ℕ → Bool → List ℕ → ℕ → List ℕ
@@ -20,25 +20,25 @@ sentIf flags changed a t =
     pick (eqb (flags % 2) 1) (scheduled a t) (pick (eqb (flags / 2 % 2) 1) (pick changed (scheduled a t) a) a)
 
 -- what an event does to the bits from a place on: an acceptance copies a signal and clears the failure bit, an expiry sets that bit
-unfoldable pub doneBy : ℕ → Event → List ℕ → ℕ → Source → List ℕ
+unfoldable pub doneBy : ℕ → RxEvent → List ℕ → ℕ → Source → List ℕ
 doneBy o (accepted r pl) a place (copy p s) = copied o pl p s a place
 doneBy o (accepted r pl) a place failure = setBit o a place 0
 doneBy o (expired r) a place (copy p s) = a
 doneBy o (expired r) a place failure = setBit o a place 1
 
 -- and to the queue of the Tx frame: "A change of a failure bit schedules nothing." a is the area before, b after
-unfoldable pub sentBy : ℕ → Event → List ℕ → List ℕ → ℕ → ℕ → Source → List ℕ
+unfoldable pub sentBy : ℕ → RxEvent → List ℕ → List ℕ → ℕ → ℕ → Source → List ℕ
 sentBy o (accepted r pl) a b t place (copy p s) = sentIf (txFrame a t .flags) (differs o pl p s a place) b t
 sentBy o (accepted r pl) a b t place failure = b
 sentBy o (expired r) a b t place (copy p s) = b
 sentBy o (expired r) a b t place failure = b
 
 -- one claim of the Rx frame
-unfoldable pub done : ℕ → Event → List ℕ → Claim → List ℕ
+unfoldable pub done : ℕ → RxEvent → List ℕ → Claim → List ℕ
 done o e a c =
     sentBy o e a (doneBy o e a (spot (c .tx % 256) (c .at)) (c .from)) (c .tx % 256) (spot (c .tx % 256) (c .at)) (c .from)
 
 -- all of them, in plan order
-unfoldable pub allDone : ℕ → Event → List Claim → List ℕ → List ℕ
+unfoldable pub allDone : ℕ → RxEvent → List Claim → List ℕ → List ℕ
 allDone o e [] a = a
 allDone o e (c ∷ cs) a = allDone o e cs (done o e a c)

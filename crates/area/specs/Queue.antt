@@ -7,21 +7,29 @@ use lib.Dec.{eqb}
 use lib.ListN.{set}
 use Rattle.base.specs.Pick.{pick}
 use Rattle.base.specs.Numbers.{byteAt, twoAt, setTwo}
-use Rattle.area.specs.Layout.{queue, entry, waits, txTimer, txFrame}
+use Rattle.area.specs.Layout.{entryCount, mostRoom, queue, entry, waits, txTimer, txFrame}
 use Rattle.area.specs.declared.queue.Ends.{Ends}
+
+-- how many entries node n's ring has room for
+abbrev pub roomOf : List ℕ → ℕ → ℕ
+roomOf a n = twoAt a (queue n + 2) % mostRoom + 1
 
 unfoldable pub endsOf : List ℕ → ℕ → Ends
 endsOf a n =
     record {
       start = twoAt a (queue n);
-      room = twoAt a (queue n + 2) % 512 + 1;
+      room = roomOf a n;
       first = twoAt a (queue n + 4);
       waiting = twoAt a (queue n + 6);
     }
 
 -- the place of the entry that is k behind the oldest
 unfoldable pub slot : Ends → ℕ → ℕ
-slot e k = entry ((e .start + (e .first + k) % e .room) % 528)
+slot e k = entry ((e .start + (e .first + k) % e .room) % entryCount)
+
+-- the Tx frame that it names
+abbrev pub entryAt : List ℕ → Ends → ℕ → ℕ
+entryAt a e k = twoAt a (slot e k) % 256
 
 -- "Adding to and taking from a queue each give the queue as it then is."
 unfoldable pub added : Ends → Ends
@@ -47,7 +55,7 @@ scheduled a t =
 
 -- the oldest waiting frame of node n
 unfoldable pub oldest : List ℕ → ℕ → ℕ
-oldest a n = twoAt a (slot (endsOf a n) 0) % 256
+oldest a n = entryAt a (endsOf a n) 0
 
 -- the area without it: it "then waits no more"
 unfoldable pub dequeued : List ℕ → ℕ → List ℕ
@@ -58,7 +66,7 @@ dequeued a n = set (setEnds a n (removed (endsOf a n))) (waits (oldest a n)) 0
 -- c entries of a ring, from the one that is k behind the oldest on
 unfoldable pub entries : List ℕ → Ends → ℕ → ℕ → List ℕ
 entries a e k zero = []
-entries a e k (suc c) = twoAt a (slot e k) % 256 ∷ entries a e (suc k) c
+entries a e k (suc c) = entryAt a e k ∷ entries a e (suc k) c
 
 -- the frames that wait on node n, the oldest first
 unfoldable pub queueOf : List ℕ → ℕ → List ℕ
@@ -66,10 +74,10 @@ queueOf a n = entries a (endsOf a n) 0 (endsOf a n .waiting)
 
 -- a queue that opening and the calls make: its ring lies among the entries, and no more wait than there is room for
 pub record Sound (e : Ends) : Type 0 where
-  pub ring : e .start + e .room ≤ 528
+  pub ring : e .start + e .room ≤ entryCount
   pub few : e .waiting ≤ e .room
   pub first : e .first < e .room
-  pub room : e .room ≤ 512
+  pub room : e .room ≤ mostRoom
 
 -- the rings of two queues have no common entry
 abbrev pub Apart : Ends → Ends → Type 0

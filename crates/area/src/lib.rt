@@ -2,4 +2,6 @@
 pub mod claims;
 pub mod frames;
 pub mod header;
+pub mod layout;
 pub mod queue;
+pub mod rows;

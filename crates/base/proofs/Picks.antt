@@ -1,4 +1,4 @@
--- Laws of `pick`: what is known of a choice from its two sides, and from its test. Assumes nothing.
+-- Laws of `pick`: what is known of a choice from its two sides, and from its test.
 use mathlib.Core.Path.{_≡_, refl}
 use mathlib.Core.Bool.{Bool, true, false, true≢false, false≢true}
 use Prim.Native.Nat.{ℕ}

@@ -1,5 +1,6 @@
 // Document 01's bench program: a plan and events on standard input, a line for each on standard output.
 use answers::Opened;
+use area::layout::AREA_LENGTH;
 use events::Event;
 use events::Front;
 use events::event_at;
@@ -19,6 +20,7 @@ ghost use mathlib.Core.Path.{_≡_};
 ghost use mathlib.Core.List.{_++_};
 ghost use Prim.Native.Nat.{_+_, _%_, _≤_, _<_};
 ghost use lib.ListN.{length, take, replicate};
+ghost use Rattle.area.specs.Layout.{areaLength};
 ghost use Rattle.reception.specs.Reception.{receivedArea};
 ghost use Rattle.ticking.specs.Tick.{tickAnswer, tickedArea};
 ghost use Rattle.taking.specs.Taken.{takenArea};
@@ -142,7 +144,7 @@ fn fill(input: &[u8], from: usize, area: &mut [u8], rx: usize, out: &mut [u8]) -
 
 // The plan's line, and where the events begin; where the plan is refused, at the input's end.
 fn opening(input: &[u8], end: usize, area: &mut [u8], out: &mut [u8]) -> Begun
-    requires { ⌜ (2 ≤ end) × (end ≤ length (now input)) × (now area ≡ replicate 32768 0) × (2048 ≤ length (now out)) ⌝ }
+    requires { ⌜ (2 ≤ end) × (end ≤ length (now input)) × (now area ≡ replicate areaLength 0) × (2048 ≤ length (now out)) ⌝ }
     ensures text { λ r. ⌜ take (r .size) (now (out .exit)) ++ textFrom (now (input .entry)) (r .next) (r .rx) (now (area .exit))
         ≡ planText (openOf (now (input .entry)) end) (now (input .entry)) end ⌝ }
     ensures next { λ r. ⌜ (r .size ≤ 2048) × (r .next ≤ length (now (input .entry))) × (r .rx ≤ 256) ⌝ }
@@ -169,7 +171,7 @@ fn opening(input: &[u8], end: usize, area: &mut [u8], out: &mut [u8]) -> Begun
 
 // The first line: what it shows, and what the events will show, is the whole output.
 fn begin(input: &[u8], area: &mut [u8], out: &mut [u8]) -> Begun
-    requires { ⌜ (now area ≡ replicate 32768 0) × (2048 ≤ length (now out)) ⌝ }
+    requires { ⌜ (now area ≡ replicate areaLength 0) × (2048 ≤ length (now out)) ⌝ }
     ensures text { λ r. ⌜ take (r .size) (now (out .exit)) ++ textFrom (now (input .entry)) (r .next) (r .rx) (now (area .exit))
         ≡ benchOutput (now (input .entry)) ⌝ }
     ensures next { λ r. ⌜ (r .size ≤ 2048) × (r .next ≤ length (now (input .entry))) × (r .rx ≤ 256) ⌝ }
@@ -199,7 +201,7 @@ fn run(input: &[u8]) -> usize
     requires { ⌜ length (now input) ≤ 65537 ⌝ }
     ensures { λ r. ⌜ r ≡ length (benchOutput (now (input .entry))) ⌝ }
 {
-    let mut area = [0u8; 32768];
+    let mut area = [0u8; AREA_LENGTH];
     let mut out = [0u8; 65536];
     let first = begin(input, &mut area, &mut out);
     let mut total = show(&out, first.size);

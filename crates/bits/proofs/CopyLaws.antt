@@ -1,5 +1,5 @@
 -- Laws of the copy: each destination bit is its source bit, every other bit is unchanged, no second payload fits, and the answer is true
--- exactly where some bit differed. They hold in both orders, at every length, position and size. Assumes nothing.
+-- exactly where some bit differed. They hold in both orders, at every length, position and size.
 use mathlib.Core.Path.{_≡_, refl, sym, _∙_}
 use mathlib.Core.Logic.{_≢_, _↔_, _⊎_, inl, inr, ⊎-elim}
 use mathlib.Core.Bool.{Bool, true, false, not, _||_, true≢false, false≢true}

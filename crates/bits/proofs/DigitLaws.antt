@@ -1,5 +1,5 @@
 -- Laws of a number's digits, over every number and every digit. Each goes by induction on the digit, from two laws of one step: digit e + 1 of
--- n is digit e of n / 2, and to replace it is to replace digit e of n / 2 and keep n's lowest digit. Assumes nothing.
+-- n is digit e of n / 2, and to replace it is to replace digit e of n / 2 and keep n's lowest digit.
 use mathlib.Core.Path.{_≡_, refl, sym, ap, _∙_}
 use mathlib.Core.Logic.{_≢_}
 use Prim.Native.Nat.{ℕ, zero, suc, _+_, _*_, _/_, _%_, _^_, _≤_, _<_}

@@ -3,4 +3,4 @@ pub mod PayloadLaws
 pub mod CopyLaws
 pub mod OwnerLaws
 pub mod MaskLaws
-pub mod Cases
+pub mod CopyCases

@@ -1,5 +1,4 @@
 -- A range of bits as a number, (2 ^ s - 1) * 2 ^ p: a set clashes with it where the two have a common digit, and otherwise joins it by an or.
--- Assumes nothing.
 use mathlib.Core.Path.{_≡_, refl, sym, ap, _∙_}
 use mathlib.Core.Logic.{_≢_}
 use mathlib.Core.Bool.{Bool, true, false}

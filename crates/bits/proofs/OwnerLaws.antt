@@ -1,5 +1,4 @@
 -- Laws of the owned bits: which bits a set has after a range joined, when they clash, and how many there are. They hold over every width.
--- Assumes nothing.
 use mathlib.Core.Path.{_≡_, refl, sym, ap, _∙_}
 use mathlib.Core.Logic.{_≢_, _↔_, ⊎-elim}
 use mathlib.Core.Bool.{Bool, true, false, _||_, true≢false, false≢true}

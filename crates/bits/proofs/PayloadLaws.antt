@@ -1,5 +1,5 @@
 -- Laws of a payload's bits: a bit after one is replaced, what stays, and that a payload's bits say what the payload is. They hold in both
--- orders, at every length and at every position. Assumes nothing.
+-- orders, at every length and at every position.
 use mathlib.Core.Path.{_≡_, refl}
 use mathlib.Core.Logic.{_≢_}
 use mathlib.Core.List.{List}

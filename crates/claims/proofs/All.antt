@@ -1,4 +1,4 @@
--- The bits of a claim, and all claims row by row. Assumes nothing.
+-- The bits of a claim, and all claims row by row.
 use mathlib.Core.Path.{_≡_, refl, sym, ap, _∙_}
 use mathlib.Core.Logic.{_⊎_, inl, inr}
 use mathlib.Core.List.{List, [], _∷_, _++_, append-assoc, append-nil}

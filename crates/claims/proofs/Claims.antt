@@ -1,4 +1,4 @@
--- The claims of a row are those that its own records say, by the places of its destinations. Assumes nothing.
+-- The claims of a row are those that its own records say, by the places of its destinations.
 use mathlib.Core.Path.{_≡_, refl, ap}
 use mathlib.Core.List.{List, [], _∷_, _++_}
 use mathlib.Core.Option.{Option, none, some}
@@ -7,11 +7,12 @@ use native.Mathlib.Omega.{arith}
 use lib.ListN.{length, getD}
 use borrow.Author.Tests.{eq-eqb, ne-eqb}
 use Rattle.base.specs.Pick.{pick}
-use Rattle.records.specs.declared.record.TxNumber.{TxNumber}
+use Rattle.records.specs.declared.record.SignalBody.{SignalBody}
+use Rattle.records.specs.declared.record.DestinationBody.{DestinationBody}
 use Rattle.records.specs.declared.record.RxFrame.{RxFrame}
 use Rattle.records.specs.declared.record.Record.{Record}
 use Rattle.records.specs.declared.record.Record.the-variants.{Signal, Destination}
-use Rattle.records.specs.Records.{kindOf}
+use Rattle.records.specs.Kinds.{stageOf}
 use Rattle.plan.specs.Rows.{failure, Claim, withFailure, claimsFrom, awaited, rowOf}
 use Rattle.facts.specs.Good.{Each, countOf}
 use Rattle.claims.specs.Claims.{Whole, Own, Beyond, Copies, ClaimsOf}
@@ -26,35 +27,35 @@ use Rattle.claims.proofs.Copies.{claims-own, copies-none}
 indicator-first :
     (n f : ℕ) (own : List Record) → Each Own own → (p s : ℕ) → 0 < countOf 6 own
     → (c : Claim) × (claimsFrom n (some f) p s own ≡ c ∷ claimsFrom n none p s own)
-unfolding claimsFrom withFailure countOf kindOf pick
+unfolding claimsFrom withFailure countOf stageOf pick
 indicator-first n f =
     by-own (λ own. (p s : ℕ) → 0 < countOf 6 own → (c : Claim) × (claimsFrom n (some f) p s own ≡ c ∷ claimsFrom n none p s own))
     (λ p s l. absurd (omega arith))
-    (λ p′ s′ rs h p s l. h p′ s′ (omega arith))
-    (λ t q rs h p s l. (record { rx = n; tx = t .0; at = f; from = failure }, refl))
+    (λ g rs h p s l. h (g .position) (g .size) (omega arith))
+    (λ t rs h p s l. (record { rx = n; tx = t .tx .0; at = f; from = failure }, refl))
 
 indicator-at :
-    (n f p s q : ℕ) (t : TxNumber) (after : List Record) (d : Claim)
-    → getD (claimsFrom n (some f) 0 0 (Signal p s ∷ Destination t q ∷ after)) 0 d ≡ record { rx = n; tx = t .0; at = f; from = failure }
+    (n f : ℕ) (g : SignalBody) (t : DestinationBody) (after : List Record) (d : Claim)
+    → getD (claimsFrom n (some f) 0 0 (Signal g ∷ Destination t ∷ after)) 0 d ≡ record { rx = n; tx = t .tx .0; at = f; from = failure }
 unfolding claimsFrom withFailure
-indicator-at n f p s q t after d = refl
+indicator-at n f g t after d = refl
 
 no-destination : (n : ℕ) (own : List Record) → Each Own own → (w : Option ℕ) (p s : ℕ) → countOf 6 own ≡ 0 → claimsFrom n w p s own ≡ []
-unfolding claimsFrom countOf kindOf pick
+unfolding claimsFrom countOf stageOf pick
 no-destination n =
     by-own (λ own. (w : Option ℕ) (p s : ℕ) → countOf 6 own ≡ 0 → claimsFrom n w p s own ≡ [])
     (λ w p s e. refl)
-    (λ p′ s′ rs h w p s e. h w p′ s′ (omega arith))
-    (λ t q rs h w p s e. absurd (omega arith))
+    (λ g rs h w p s e. h w (g .position) (g .size) (omega arith))
+    (λ t rs h w p s e. absurd (omega arith))
 
 -- one claim more in front
 copies-suc : (n : ℕ) (own : List Record) (c : Claim) (cs : List Claim) → Copies 0 n own cs → Copies 1 n own (c ∷ cs)
 copies-suc n own c cs h =
     record {
       many = omega (arith, h .many);
-      each = λ before upto dests after p s q t e f a d.
+      each = λ before upto dests after g t e f a d.
           let k : 1 + countOf 6 before ≡ suc (0 + countOf 6 before) = omega arith in
-          rw k (h .each before upto dests after p s q t e f a d);
+          rw k (h .each before upto dests after g t e f a d);
     }
 
 claims-of : (n : ℕ) (x : RxFrame) (own rest : List Record) → Each Own own → Beyond rest → ClaimsOf n x own (rowOf n x (own ++ rest) .claims)
@@ -66,7 +67,7 @@ claims-of n x own rest o b =
       enabled = λ e l.
           let c = indicator-first n (x .position) own o 0 0 l in
           rw (eq-eqb (x .enable) 1 e, c .1) (copies-suc n own (c .0) _ (copies-none n own o));
-      failing = λ e p s q t after f d. rw (eq-eqb (x .enable) 1 e, f) (indicator-at n (x .position) p s q t after d);
+      failing = λ e g t after f d. rw (eq-eqb (x .enable) 1 e, f) (indicator-at n (x .position) g t after d);
       nothing = λ e. ap length (no-destination n own o (awaited x) 0 0 e);
     })
 

@@ -1,11 +1,13 @@
--- The claims of the examples, computed. Assumes nothing.
+-- The claims of the examples, computed.
 use mathlib.Core.Path.{_≡_, refl}
 use Rattle.base.specs.Pick.{pick}
 use Rattle.bits.specs.Digit.{digit, setDigit}
 use Rattle.bits.specs.Owners.{owned, clash}
-use Rattle.records.specs.Records.{lengthOf, eightAt, txAt, rxAt, fieldsAt, recordAt, kindOf, sizeOf, recordsFrom, recordsAt, records}
+use Rattle.records.specs.Kinds.{formOf, lengthOf, eightAt, txAt, rxAt, fieldsAt, kindOf, stageOfKind, stageOf}
+use Rattle.records.specs.Records.{recordAt, sizeOf, recordsFrom, recordsAt, records}
 use Rattle.plan.specs.Progress.{keyOf, counted, rowAfter, after, start}
-use Rattle.plan.specs.Tests.{followed, isKind, isWhole, mayStand, hasRoom, isPrescaler, zeroPast, txInRange, rxInRange, inRange, rises, inData, isFree, indicatorInData, indicatorIsFree}
+use Rattle.plan.specs.Tests.{followed, isKind, isWhole, mayStand, hasRoom, isPrescaler, zeroPast, txInRange}
+use Rattle.plan.specs.Tests.{rxInRange, inRange, rises, inData, isFree, indicatorInData, indicatorIsFree}
 use Rattle.plan.specs.Check.{need, placed, judged, sizesAfter, setsAfter, ended, verdictOf, checkOn, checkPlan}
 use Rattle.plan.specs.declared.verdict.Verdict.the-variants.{Good}
 use Rattle.plan.specs.Rows.{withFailure, claimsFrom, awaited, rowOf, rowsFrom, rowsOf, allClaims, claimsOf, txFrames, txOf, nodesIn, orderIn}
@@ -14,11 +16,14 @@ use Rattle.claims.specs.Examples.{several, numbered, Written}
 use Rattle.claims.proofs.Said.{good-said}
 
 good : checkPlan several ≡ Good 2 3 3
-unfolding pick digit setDigit owned clash lengthOf eightAt txAt rxAt fieldsAt recordAt kindOf sizeOf recordsFrom recordsAt records keyOf counted rowAfter after start followed isKind isWhole mayStand hasRoom isPrescaler zeroPast txInRange rxInRange inRange rises inData isFree indicatorInData indicatorIsFree need placed judged sizesAfter setsAfter ended verdictOf checkOn checkPlan
+unfolding pick digit setDigit owned clash formOf lengthOf eightAt txAt rxAt fieldsAt recordAt kindOf stageOfKind stageOf sizeOf recordsFrom
+    recordsAt records keyOf counted rowAfter after start followed isKind isWhole mayStand hasRoom isPrescaler zeroPast txInRange rxInRange inRange
+    rises inData isFree indicatorInData indicatorIsFree need placed judged sizesAfter setsAfter ended verdictOf checkOn checkPlan
 good = refl
 
 pub written : Written
-unfolding pick lengthOf eightAt txAt rxAt fieldsAt recordAt sizeOf recordsFrom recordsAt records withFailure claimsFrom awaited rowOf rowsFrom rowsOf allClaims claimsOf txFrames txOf nodesIn orderIn sizesOf numbered
+unfolding pick formOf lengthOf eightAt txAt rxAt fieldsAt recordAt kindOf stageOfKind stageOf sizeOf recordsFrom recordsAt records withFailure
+    claimsFrom awaited rowOf rowsFrom rowsOf allClaims claimsOf txFrames txOf nodesIn orderIn sizesOf numbered
 written =
     record {
       document = refl;

@@ -1,4 +1,4 @@
--- The Tx frames and the rows stand at the places that the records of their kind before them count to. Assumes nothing.
+-- The Tx frames and the rows stand at the places that the records of their kind before them count to.
 use mathlib.Core.Path.{_≡_, refl, sym, ap, _∙_}
 use mathlib.Core.Logic.{_≢_}
 use mathlib.Core.List.{List, [], _∷_, _++_}
@@ -11,28 +11,29 @@ use Rattle.base.specs.Pick.{pick}
 use Rattle.records.specs.declared.record.TxFrame.{TxFrame}
 use Rattle.records.specs.declared.record.RxFrame.{RxFrame}
 use Rattle.records.specs.declared.record.Record.{Record}
-use Rattle.records.specs.declared.record.Record.the-variants.{Head, Node, Tx, Rx, Signal, Destination, BadKind, Cut, End}
-use Rattle.records.specs.Records.{kindOf}
+use Rattle.records.specs.declared.record.Record.the-variants.{Head, Node, Tx, Rx, Signal, Destination, Broken}
+use Rattle.records.specs.Kinds.{stageOf}
 use Rattle.plan.specs.Rows.{Row, rowOf, rowsFrom, txFrames, nodesIn, orderIn}
 use Rattle.facts.specs.Good.{Each, countOf}
+use Rattle.records.proofs.Variants.{by-tx, by-rx}
 use Rattle.claims.specs.Claims.{Whole}
 use Rattle.claims.specs.Statements.{FramesBySplits, NodesCounted, HeadOrder, OneFrames}
-use Rattle.claims.proofs.OfKind.{named}
+use Rattle.claims.proofs.OfKind.{no-stage, named}
 use Rattle.claims.proofs.Splits.{instead, each-append, each-here, same-lists, count-hit, count-miss, split-at}
 
 -- one element for each record of a kind
 record Collects {A : Type 0} (kind : ℕ) (F : ℕ → List Record → List A) : Type 0 where
   empty : (n : ℕ) → F n [] ≡ []
-  skip : (n : ℕ) (r : Record) (rs : List Record) → Whole r → kindOf r ≢ kind → F n (r ∷ rs) ≡ F n rs
-  hit : (n : ℕ) (r : Record) (rs : List Record) → Whole r → kindOf r ≡ kind → (a : A) × (F n (r ∷ rs) ≡ a ∷ F (suc n) rs)
+  skip : (n : ℕ) (r : Record) (rs : List Record) → Whole r → stageOf r ≢ kind → F n (r ∷ rs) ≡ F n rs
+  hit : (n : ℕ) (r : Record) (rs : List Record) → Whole r → stageOf r ≡ kind → (a : A) × (F n (r ∷ rs) ≡ a ∷ F (suc n) rs)
 
 module _ {A : Type 0} (kind : ℕ) (F : ℕ → List Record → List A) (c : Collects kind F) where
   collects-many : (n : ℕ) (rs : List Record) → Each Whole rs → length (F n rs) ≡ countOf kind rs
   unfolding countOf Each
   collects-many n [] w = ap length (c .empty n)
-  collects-many n (r ∷ rs) w = go (ℕ-discrete (kindOf r) kind) (λ m. collects-many m rs (w .1))
+  collects-many n (r ∷ rs) w = go (ℕ-discrete (stageOf r) kind) (λ m. collects-many m rs (w .1))
     where
-      go : Dec (kindOf r ≡ kind) → ((m : ℕ) → length (F m rs) ≡ countOf kind rs) → length (F n (r ∷ rs)) ≡ countOf kind (r ∷ rs)
+      go : Dec (stageOf r ≡ kind) → ((m : ℕ) → length (F m rs) ≡ countOf kind rs) → length (F n (r ∷ rs)) ≡ countOf kind (r ∷ rs)
       go (yes e) h = ap length (c .hit n r rs (w .0) e .1) ∙ ap suc (h (suc n)) ∙ sym (count-hit kind r rs e)
       go (no d) h = ap length (c .skip n r rs (w .0) d) ∙ h n ∙ sym (count-miss kind r rs d)
 
@@ -41,9 +42,9 @@ module _ {A : Type 0} (kind : ℕ) (F : ℕ → List Record → List A) (c : Col
       → getD (F n (front ++ rest)) (countOf kind front) d ≡ getD (F (n + countOf kind front) rest) 0 d
   unfolding countOf Each
   collects-at n [] rest d w = rw (add-zero n)
-  collects-at n (r ∷ front) rest d w = go (ℕ-discrete (kindOf r) kind) (λ m. collects-at m front rest d (w .1))
+  collects-at n (r ∷ front) rest d w = go (ℕ-discrete (stageOf r) kind) (λ m. collects-at m front rest d (w .1))
     where
-      go : Dec (kindOf r ≡ kind) → ((m : ℕ) → getD (F m (front ++ rest)) (countOf kind front) d ≡ getD (F (m + countOf kind front) rest) 0 d)
+      go : Dec (stageOf r ≡ kind) → ((m : ℕ) → getD (F m (front ++ rest)) (countOf kind front) d ≡ getD (F (m + countOf kind front) rest) 0 d)
           → getD (F n (r ∷ front ++ rest)) (countOf kind (r ∷ front)) d ≡ getD (F (n + countOf kind (r ∷ front)) rest) 0 d
       go (yes e) h =
           let s : suc n + countOf kind front ≡ n + suc (countOf kind front) = omega arith in
@@ -53,21 +54,13 @@ module _ {A : Type 0} (kind : ℕ) (F : ℕ → List Record → List A) (c : Col
 -- ---- Tx frames
 
 tx-collects : Collects {A = TxFrame} 3 (λ n rs. txFrames rs)
-unfolding txFrames kindOf
+unfolding txFrames stageOf
 tx-collects = record { empty = λ n. refl; skip = λ n. skip; hit = λ n. hit }
   where
-    skip : (r : Record) (rs : List Record) → Whole r → kindOf r ≢ 3 → txFrames (r ∷ rs) ≡ txFrames rs
-    skip (Head order) rs w d = refl
-    skip (Node type) rs w d = refl
-    skip (Tx x) rs w d = absurd (d refl)
-    skip (Rx x) rs w d = refl
-    skip (Signal p s) rs w d = refl
-    skip (Destination t q) rs w d = refl
-    skip BadKind rs w d = refl
-    skip (Cut kind) rs w d = refl
-    skip End rs w d = refl
+    skip : (r : Record) (rs : List Record) → Whole r → stageOf r ≢ 3 → txFrames (r ∷ rs) ≡ txFrames rs
+    skip r rs w d = by-tx (λ r. stageOf r ≢ 3 → txFrames (r ∷ rs) ≡ txFrames rs) (λ x d. absurd (d refl)) (λ r no d. no .by _ _) r d
 
-    hit : (r : Record) (rs : List Record) → Whole r → kindOf r ≡ 3 → (x : TxFrame) × (txFrames (r ∷ rs) ≡ x ∷ txFrames rs)
+    hit : (r : Record) (rs : List Record) → Whole r → stageOf r ≡ 3 → (x : TxFrame) × (txFrames (r ∷ rs) ≡ x ∷ txFrames rs)
     hit r rs w e = let x = named r w .tx e in (x .0, ap (λ (y : Record). txFrames (y ∷ rs)) (x .1))
 
 pub frames-by-splits : FramesBySplits
@@ -90,21 +83,13 @@ one-frames rs w xs ys a b =
 -- ---- rows
 
 rows-collect : Collects {A = Row} 4 rowsFrom
-unfolding rowsFrom kindOf
+unfolding rowsFrom stageOf
 rows-collect = record { empty = λ n. refl; skip = skip; hit = hit }
   where
-    skip : (n : ℕ) (r : Record) (rs : List Record) → Whole r → kindOf r ≢ 4 → rowsFrom n (r ∷ rs) ≡ rowsFrom n rs
-    skip n (Head order) rs w d = refl
-    skip n (Node type) rs w d = refl
-    skip n (Tx x) rs w d = refl
-    skip n (Rx x) rs w d = absurd (d refl)
-    skip n (Signal p s) rs w d = refl
-    skip n (Destination t q) rs w d = refl
-    skip n BadKind rs w d = refl
-    skip n (Cut kind) rs w d = refl
-    skip n End rs w d = refl
+    skip : (n : ℕ) (r : Record) (rs : List Record) → Whole r → stageOf r ≢ 4 → rowsFrom n (r ∷ rs) ≡ rowsFrom n rs
+    skip n r rs w d = by-rx (λ r. stageOf r ≢ 4 → rowsFrom n (r ∷ rs) ≡ rowsFrom n rs) (λ x d. absurd (d refl)) (λ r no d. no .by _ _) r d
 
-    hit : (n : ℕ) (r : Record) (rs : List Record) → Whole r → kindOf r ≡ 4 → (x : Row) × (rowsFrom n (r ∷ rs) ≡ x ∷ rowsFrom (suc n) rs)
+    hit : (n : ℕ) (r : Record) (rs : List Record) → Whole r → stageOf r ≡ 4 → (x : Row) × (rowsFrom n (r ∷ rs) ≡ x ∷ rowsFrom (suc n) rs)
     hit n r rs w e = let x = named r w .rx e in (rowOf n (x .0) rs, ap (λ (y : Record). rowsFrom n (y ∷ rs)) (x .1))
 
 pub rows-many : (rs : List Record) → Each Whole rs → length (rowsFrom 0 rs) ≡ countOf 4 rs
@@ -120,17 +105,15 @@ row-at front since x d w =
 -- ---- nodes and order
 
 pub nodes-counted : NodesCounted
-unfolding nodesIn countOf kindOf pick Each
+unfolding nodesIn countOf stageOf pick Each
 nodes-counted [] w = refl
-nodes-counted (Node type ∷ rs) w = omega (arith, nodes-counted rs (w .1))
+nodes-counted (Node body ∷ rs) w = omega (arith, nodes-counted rs (w .1))
 nodes-counted (Head order ∷ rs) w = omega (arith, nodes-counted rs (w .1))
 nodes-counted (Tx x ∷ rs) w = omega (arith, nodes-counted rs (w .1))
 nodes-counted (Rx x ∷ rs) w = omega (arith, nodes-counted rs (w .1))
-nodes-counted (Signal p s ∷ rs) w = omega (arith, nodes-counted rs (w .1))
-nodes-counted (Destination t q ∷ rs) w = omega (arith, nodes-counted rs (w .1))
-nodes-counted (BadKind ∷ rs) w = omega (arith, nodes-counted rs (w .1))
-nodes-counted (Cut kind ∷ rs) w = absurd (w .0 kind refl)
-nodes-counted (End ∷ rs) w = omega (arith, nodes-counted rs (w .1))
+nodes-counted (Signal body ∷ rs) w = omega (arith, nodes-counted rs (w .1))
+nodes-counted (Destination body ∷ rs) w = omega (arith, nodes-counted rs (w .1))
+nodes-counted (Broken fault ∷ rs) w = rw (no-stage fault (w .0)) (omega (arith, nodes-counted rs (w .1)))
 
 pub head-order : HeadOrder
 unfolding orderIn

@@ -1,4 +1,4 @@
--- A bit that a claim holds has an owner in the records. Assumes nothing.
+-- A bit that a claim holds has an owner in the records.
 use mathlib.Core.Path.{_≡_, refl, sym, ap, _∙_}
 use mathlib.Core.List.{List, _∷_, _++_, append-assoc}
 use Prim.Native.Nat.{ℕ, zero, suc, _+_, _<_}
@@ -6,7 +6,8 @@ use native.Mathlib.Nat.{zero-add}
 use native.Mathlib.Omega.{arith}
 use native.Mathlib.Decide.{ℕ-discrete}
 use lib.ListN.{length, getD}
-use Rattle.records.specs.declared.record.TxNumber.{TxNumber}
+use Rattle.records.specs.declared.record.SignalBody.{SignalBody}
+use Rattle.records.specs.declared.record.DestinationBody.{DestinationBody}
 use Rattle.records.specs.declared.record.Record.{Record}
 use Rattle.records.specs.declared.record.Record.the-variants.{Rx, Signal, Destination}
 use Rattle.plan.specs.Rows.{copy, failure, Claim, Row, rowsFrom, allClaims}
@@ -18,8 +19,8 @@ use Rattle.claims.proofs.One.{CopyAt, copy-at, copied, indicated-some}
 use Rattle.claims.proofs.Rows.{FrameAt, frame-at, regular-at, claims-at}
 use Rattle.claims.proofs.All.{claim-bits, at-has, all-claims}
 
-number-is : (x : TxNumber) (t : ℕ) → x .0 ≡ t → x ≡ record { 0 = t }
-number-is x t e i = record { 0 = e i }
+number-is : (x : DestinationBody) (t : ℕ) → x .tx .0 ≡ t → x ≡ record { tx = record { 0 = t }; position = x .position }
+number-is x t e i = record { tx = record { 0 = e i }; position = x .position }
 
 regroup :
     (front upto dests after rest : List Record) (r s d : Record)
@@ -33,22 +34,23 @@ module _ (rs : List Record) (t b k : ℕ) (f : FrameAt k rs) where
       ∙ ap (λ (xs : List Record). f .front ++ Rx (f .x) ∷ xs) (f .part .split ∙ ap (λ (xs : List Record). xs ++ f .part .rest) e)
 
   copy-owns :
-      (j : ℕ) (c : CopyAt j (f .part .own)) → Holds (record { rx = k; tx = c .t .0; at = c .q; from = copy (c .signal .p) (c .signal .s) }) t b
+      (j : ℕ) (c : CopyAt j (f .part .own))
+      → Holds (record { rx = k; tx = c .t .tx .0; at = c .t .position; from = copy (c .signal .g .position) (c .signal .g .size) }) t b
       → Owner rs t b
   copy-owns j c h =
-      let g = claim-bits _ t b .copied (c .signal .p) (c .signal .s) refl .0 h in
-      let own = c .split ∙ ap (λ (xs : List Record). xs ++ Destination (c .t) (c .q) ∷ c .after) (c .signal .split) in
-      destination (f .front ++ Rx (f .x) ∷ c .signal .upto) (c .signal .dests) (c .after ++ f .part .rest) (c .signal .p) (c .signal .s) (c .q)
+      let g = claim-bits _ t b .copied (c .signal .g .position) (c .signal .g .size) refl .0 h in
+      let own = c .split ∙ ap (λ (xs : List Record). xs ++ Destination (c .t) ∷ c .after) (c .signal .split) in
+      destination (f .front ++ Rx (f .x) ∷ c .signal .upto) (c .signal .dests) (c .after ++ f .part .rest) (c .signal .g) (c .t .position)
       (rw (← (number-is (c .t) t (g .0)))
       (split-own _ own ∙ regroup (f .front) (c .signal .upto) (c .signal .dests) (c .after) (f .part .rest) (Rx (f .x)) _ _))
       (c .signal .all) (g .1) (g .2)
 
   indicator-owns :
-      (p s q : ℕ) (u : TxNumber) (after : List Record) → f .part .own ≡ Signal p s ∷ Destination u q ∷ after → f .x .enable ≡ 1
-      → Holds (record { rx = k; tx = u .0; at = f .x .position; from = failure }) t b → Owner rs t b
-  indicator-owns p s q u after e on h =
+      (y : SignalBody) (u : DestinationBody) (after : List Record) → f .part .own ≡ Signal y ∷ Destination u ∷ after → f .x .enable ≡ 1
+      → Holds (record { rx = k; tx = u .tx .0; at = f .x .position; from = failure }) t b → Owner rs t b
+  indicator-owns y u after e on h =
       let g = claim-bits _ t b .failed refl .0 h in
-      indicator (f .front) (after ++ f .part .rest) (f .x) p s q
+      indicator (f .front) (after ++ f .part .rest) (f .x) y (u .position)
       (rw (← (number-is u t (g .0))) (split-own _ e)) on (g .1)
 
   claim-owns :
@@ -62,7 +64,7 @@ module _ (rs : List Record) (t b k : ℕ) (f : FrameAt k rs) where
           copy-owns i at (rw (copied first k (f .part .own) cs c i at d) at m)
 
       with-indicator : f .x .enable ≡ 1 → Indicated (f .part .own) → (j : ℕ) → j < length cs → Holds (getD cs j d) t b → Owner rs t b
-      with-indicator on (p, s, u, q, after, e) zero l m = indicator-owns p s q u after e on (rw (h .failing on p s q u after e d) at m)
+      with-indicator on (y, u, after, e) zero l m = indicator-owns y u after e on (rw (h .failing on y u after e d) at m)
       with-indicator on i (suc j) l m =
           let c = h .enabled on (indicated-some (f .part .own) i) in
           let e : suc j ≡ 1 + j = omega arith in

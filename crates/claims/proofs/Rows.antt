@@ -1,4 +1,4 @@
--- No second list of rows has the properties. Assumes nothing.
+-- No second list of rows has the properties.
 use mathlib.Core.Path.{_≡_, refl, sym, ap, _∙_}
 use mathlib.Core.Logic.{_⊎_, inl, inr}
 use mathlib.Core.List.{List, [], _∷_, _++_}
@@ -42,19 +42,19 @@ parted (r ∷ rs) = go (own? r) (parted rs)
 regular-own : (x : RxFrame) (own rest : List Record) → Beyond rest → Regular x (own ++ rest) → Regular x own
 regular-own x own rest b h =
     record {
-      signalled = λ t q after e. h .signalled t q (after ++ rest) (ap (λ (xs : List Record). xs ++ rest) e);
+      signalled = λ t after e. h .signalled t (after ++ rest) (ap (λ (xs : List Record). xs ++ rest) e);
       indicated = λ on. go own (h .indicated on);
     }
   where
     go : (own : List Record) → Indicated (own ++ rest) → Indicated own
-    go [] (p, s, t, q, after, e) = absurd (b (Signal p s) (Destination t q ∷ after) e (inl (p, s, refl)))
-    go (r ∷ []) (p, s, t, q, after, e) =
-        let f : rest ≡ Destination t q ∷ after = cc in
-        absurd (b (Destination t q) after f (inr (t, q, refl)))
-    go (r ∷ r′ ∷ rs) (p, s, t, q, after, e) =
-        let f : r ≡ Signal p s = cc in
-        let g : r′ ≡ Destination t q = cc in
-        (p, s, t, q, rs, λ i. f i ∷ g i ∷ rs)
+    go [] (y, t, after, e) = absurd (b (Signal y) (Destination t ∷ after) e (inl (y, refl)))
+    go (r ∷ []) (y, t, after, e) =
+        let f : rest ≡ Destination t ∷ after = cc in
+        absurd (b (Destination t) after f (inr (t, refl)))
+    go (r ∷ r′ ∷ rs) (y, t, after, e) =
+        let f : r ≡ Signal y = cc in
+        let g : r′ ≡ Destination t = cc in
+        (y, t, rs, λ i. f i ∷ g i ∷ rs)
 
 -- ---- the k-th Rx frame, with its own records
 

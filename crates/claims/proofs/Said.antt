@@ -1,4 +1,4 @@
--- Of a good plan all is said. Assumes nothing.
+-- Of a good plan all is said.
 use mathlib.Core.List.{List}
 use Prim.Native.Nat.{ℕ}
 use Rattle.records.specs.Records.{records}

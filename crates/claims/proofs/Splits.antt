@@ -1,4 +1,4 @@
--- Laws of lists split where an element stands, and of counts. Assumes nothing.
+-- Laws of lists split where an element stands, and of counts.
 use mathlib.Core.Path.{_≡_, refl, ap, _∙_}
 use mathlib.Core.Logic.{_≢_}
 use mathlib.Core.List.{List, [], _∷_, _++_}
@@ -10,7 +10,7 @@ use lib.Seq.{ext-getD}
 use borrow.Author.Tests.{eq-eqb, ne-eqb}
 use Rattle.base.specs.Pick.{pick}
 use Rattle.records.specs.declared.record.Record.{Record}
-use Rattle.records.specs.Records.{kindOf}
+use Rattle.records.specs.Kinds.{stageOf}
 use Rattle.facts.specs.Good.{Each, countOf}
 
 -- ---- lists that differ in a place
@@ -45,13 +45,13 @@ each-here P front r rest h = each-append P front (r ∷ rest) h .1 .0
 
 -- ---- counts
 
-pub count-hit : (kind : ℕ) (r : Record) (rs : List Record) → kindOf r ≡ kind → countOf kind (r ∷ rs) ≡ suc (countOf kind rs)
+pub count-hit : (kind : ℕ) (r : Record) (rs : List Record) → stageOf r ≡ kind → countOf kind (r ∷ rs) ≡ suc (countOf kind rs)
 unfolding countOf pick
-count-hit kind r rs e = rw (eq-eqb (kindOf r) kind e) (omega arith)
+count-hit kind r rs e = rw (eq-eqb (stageOf r) kind e) (omega arith)
 
-pub count-miss : (kind : ℕ) (r : Record) (rs : List Record) → kindOf r ≢ kind → countOf kind (r ∷ rs) ≡ countOf kind rs
+pub count-miss : (kind : ℕ) (r : Record) (rs : List Record) → stageOf r ≢ kind → countOf kind (r ∷ rs) ≡ countOf kind rs
 unfolding countOf pick
-count-miss kind r rs n = rw (ne-eqb (kindOf r) kind n) (omega arith)
+count-miss kind r rs n = rw (ne-eqb (stageOf r) kind n) (omega arith)
 
 pub count-append : (kind : ℕ) (xs ys : List Record) → countOf kind (xs ++ ys) ≡ countOf kind xs + countOf kind ys
 unfolding countOf
@@ -60,7 +60,7 @@ count-append kind (x ∷ xs) ys = omega (arith, count-append kind xs ys)
 
 -- one that stands there is one more than those before it
 pub count-below :
-    (kind : ℕ) (front rest rs : List Record) (r : Record) → kindOf r ≡ kind → rs ≡ front ++ r ∷ rest → countOf kind front < countOf kind rs
+    (kind : ℕ) (front rest rs : List Record) (r : Record) → stageOf r ≡ kind → rs ≡ front ++ r ∷ rest → countOf kind front < countOf kind rs
 count-below kind front rest rs r k e =
     let m : countOf kind rs ≡ countOf kind front + countOf kind (r ∷ rest) = ap (countOf kind) e ∙ count-append kind front (r ∷ rest) in
     omega (arith, count-hit kind r rest k)
@@ -72,19 +72,19 @@ pub record SplitAt (kind k : ℕ) (rs : List Record) : Type 0 where
   pub here : Record
   pub rest : List Record
   pub split : rs ≡ front ++ here ∷ rest
-  pub is : kindOf here ≡ kind
+  pub is : stageOf here ≡ kind
   pub many : countOf kind front ≡ k
 
 pub split-at : (kind k : ℕ) (rs : List Record) → k < countOf kind rs → SplitAt kind k rs
 unfolding countOf
 split-at kind k [] l = absurd (omega arith)
-split-at kind k (r ∷ rs) l = go (ℕ-discrete (kindOf r) kind) k l (λ m. split-at kind m rs)
+split-at kind k (r ∷ rs) l = go (ℕ-discrete (stageOf r) kind) k l (λ m. split-at kind m rs)
   where
     more : (m k : ℕ) → ((front : List Record) → countOf kind front ≡ m → countOf kind (r ∷ front) ≡ k) → SplitAt kind m rs → SplitAt kind k (r ∷ rs)
     more m k f a =
         record { front = r ∷ a .front; here = a .here; rest = a .rest; split = behind r (a .split); is = a .is; many = f (a .front) (a .many) }
 
-    go : Dec (kindOf r ≡ kind) → (k : ℕ) → k < countOf kind (r ∷ rs) → ((m : ℕ) → m < countOf kind rs → SplitAt kind m rs) → SplitAt kind k (r ∷ rs)
+    go : Dec (stageOf r ≡ kind) → (k : ℕ) → k < countOf kind (r ∷ rs) → ((m : ℕ) → m < countOf kind rs → SplitAt kind m rs) → SplitAt kind k (r ∷ rs)
     go (yes e) zero l rec = record { front = []; here = r; rest = rs; split = refl; is = e; many = refl }
     go (yes e) (suc k) l rec = more k (suc k) (λ front m. count-hit kind r front e ∙ ap suc m) (rec k (omega (arith, count-hit kind r rs e)))
     go (no n) k l rec = more k k (λ front m. count-miss kind r front n ∙ m) (rec k (omega (arith, count-miss kind r rs n)))

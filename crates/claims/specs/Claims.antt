@@ -4,25 +4,28 @@ use mathlib.Core.Logic.{_≢_, _⊎_}
 use mathlib.Core.List.{List, _∷_, _++_}
 use Prim.Native.Nat.{ℕ, _+_, _<_}
 use lib.ListN.{length, getD}
-use Rattle.records.specs.declared.record.TxNumber.{TxNumber}
+use Rattle.records.specs.declared.record.SignalBody.{SignalBody}
+use Rattle.records.specs.declared.record.DestinationBody.{DestinationBody}
 use Rattle.records.specs.declared.record.TxFrame.{TxFrame}
 use Rattle.records.specs.declared.record.RxFrame.{RxFrame}
 use Rattle.records.specs.declared.record.Record.{Record}
-use Rattle.records.specs.declared.record.Record.the-variants.{Tx, Rx, Signal, Destination, Cut}
+use Rattle.records.specs.declared.record.Record.the-variants.{Tx, Rx, Signal, Destination, Broken}
+use Rattle.records.specs.declared.record.Fault.the-variants.{Cut}
+use Rattle.records.specs.Kinds.{txStage, rxStage, destinationStage}
 use Rattle.plan.specs.Rows.{copy, failure, Claim, Row}
 use Rattle.facts.specs.Good.{Each, countOf}
 
 -- ---- records
 
--- a record that does not run past the plan's end; of one that does there is only the kind, which `countOf` counts
+-- a record that does not run past the plan's end; of one that does there is only the stage of its kind, which `countOf` counts
 abbrev pub Whole : Record → Type 0
-Whole r = (kind : ℕ) → r ≢ Cut kind
+Whole r = (kind : ℕ) → r ≢ Broken (Cut kind)
 
 abbrev pub IsSignal : Record → Type 0
-IsSignal r = (p : ℕ) × (s : ℕ) × (r ≡ Signal p s)
+IsSignal r = (g : SignalBody) × (r ≡ Signal g)
 
 abbrev pub IsDestination : Record → Type 0
-IsDestination r = (t : TxNumber) × (q : ℕ) × (r ≡ Destination t q)
+IsDestination r = (t : DestinationBody) × (r ≡ Destination t)
 
 -- what an Rx frame may have of its own, and the records past that: none, or a first one that is no such record
 abbrev pub Own : Record → Type 0
@@ -34,28 +37,28 @@ Beyond rest = (r : Record) (rs : List Record) → rest ≡ r ∷ rs → Own r �
 -- ---- "Nodes, Tx and Rx frames are numbered from 0.": the number of a frame is how many of its kind stand before it
 
 pub record FramesOf (rs : List Record) (frames : List TxFrame) : Type 0 where
-  pub many : length frames ≡ countOf 3 rs
-  pub each : (front rest : List Record) (x : TxFrame) → rs ≡ front ++ Tx x ∷ rest → (d : TxFrame) → getD frames (countOf 3 front) d ≡ x
+  pub many : length frames ≡ countOf txStage rs
+  pub each : (front rest : List Record) (x : TxFrame) → rs ≡ front ++ Tx x ∷ rest → (d : TxFrame) → getD frames (countOf txStage front) d ≡ x
 
 -- ---- the claims of an Rx frame with its number, by its own records
 
 -- "signals are copied in plan order, each to its destinations in order": after the `first` claims there is one for each destination, of the last
 -- signal before it
 pub record Copies (first number : ℕ) (own : List Record) (claims : List Claim) : Type 0 where
-  pub many : length claims ≡ first + countOf 6 own
-  pub each : (before upto dests after : List Record) (p s q : ℕ) (t : TxNumber) → own ≡ before ++ Destination t q ∷ after
-      → before ≡ upto ++ Signal p s ∷ dests → Each IsDestination dests → (d : Claim)
-      → getD claims (first + countOf 6 before) d ≡ record { rx = number; tx = t .0; at = q; from = copy p s }
+  pub many : length claims ≡ first + countOf destinationStage own
+  pub each : (before upto dests after : List Record) (g : SignalBody) (t : DestinationBody) → own ≡ before ++ Destination t ∷ after
+      → before ≡ upto ++ Signal g ∷ dests → Each IsDestination dests → (d : Claim)
+      → getD claims (first + countOf destinationStage before) d ≡ record { rx = number; tx = t .tx .0; at = t .position; from = copy (g .position) (g .size) }
 
 -- "An enabled failure indicator owns one bit, at its position, in the Tx frame of the first destination of its frame's first signal." It comes first:
 -- "an enabled failure bit becomes 0; signals are copied"
 pub record ClaimsOf (number : ℕ) (x : RxFrame) (own : List Record) (claims : List Claim) : Type 0 where
   pub disabled : x .enable ≢ 1 → Copies 0 number own claims
-  pub enabled : x .enable ≡ 1 → 0 < countOf 6 own → Copies 1 number own claims
-  pub failing : x .enable ≡ 1 → (p s q : ℕ) (t : TxNumber) (after : List Record) → own ≡ Signal p s ∷ Destination t q ∷ after → (d : Claim)
-      → getD claims 0 d ≡ record { rx = number; tx = t .0; at = x .position; from = failure }
+  pub enabled : x .enable ≡ 1 → 0 < countOf destinationStage own → Copies 1 number own claims
+  pub failing : x .enable ≡ 1 → (g : SignalBody) (t : DestinationBody) (after : List Record) → own ≡ Signal g ∷ Destination t ∷ after → (d : Claim)
+      → getD claims 0 d ≡ record { rx = number; tx = t .tx .0; at = x .position; from = failure }
   -- with no destination there is no claim
-  pub nothing : countOf 6 own ≡ 0 → length claims ≡ 0
+  pub nothing : countOf destinationStage own ≡ 0 → length claims ≡ 0
 
 -- ---- the rows
 
@@ -66,19 +69,19 @@ pub record RowOf (n : ℕ) (x : RxFrame) (since : List Record) (row : Row) : Typ
   pub claims : (own rest : List Record) → since ≡ own ++ rest → Each Own own → Beyond rest → ClaimsOf n x own (row .claims)
 
 pub record RowsOf (rs : List Record) (rows : List Row) : Type 0 where
-  pub many : length rows ≡ countOf 4 rs
+  pub many : length rows ≡ countOf rxStage rs
   pub each : (front since : List Record) (x : RxFrame) → rs ≡ front ++ Rx x ∷ since → (d : Row)
-      → RowOf (countOf 4 front) x since (getD rows (countOf 4 front) d)
+      → RowOf (countOf rxStage front) x since (getD rows (countOf rxStage front) d)
 
 -- ---- plans in which these words leave nothing open
 
 -- an enabled indicator's frame is followed by a signal and a destination
 abbrev pub Indicated : List Record → Type 0
-Indicated since = (p : ℕ) × (s : ℕ) × (t : TxNumber) × (q : ℕ) × (rest : List Record) × (since ≡ Signal p s ∷ Destination t q ∷ rest)
+Indicated since = (g : SignalBody) × (t : DestinationBody) × (rest : List Record) × (since ≡ Signal g ∷ Destination t ∷ rest)
 
 -- no destination stands before its frame's first signal
 abbrev pub SignalFirst : List Record → Type 0
-SignalFirst since = (t : TxNumber) (q : ℕ) (rest : List Record) → since ≢ Destination t q ∷ rest
+SignalFirst since = (t : DestinationBody) (rest : List Record) → since ≢ Destination t ∷ rest
 
 pub record Regular (x : RxFrame) (since : List Record) : Type 0 where
   pub signalled : SignalFirst since

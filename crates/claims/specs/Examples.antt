@@ -7,7 +7,7 @@ use Rattle.plan.specs.declared.verdict.Verdict.the-variants.{Good}
 use Rattle.plan.specs.Check.{checkPlan}
 use Rattle.plan.specs.Rows.{copy, failure, Claim, Row, rowsOf, claimsOf, txOf, nodesIn, orderIn}
 use Rattle.facts.specs.Good.{sizesOf}
-use Rattle.facts.specs.Cases.{node, tx, rx, signal, destination, listing}
+use Rattle.facts.specs.PlanCases.{node, tx, rx, signal, destination, listing}
 use Rattle.claims.specs.Statements.{Said}
 
 abbrev pub copied : ℕ → ℕ → ℕ → ℕ → ℕ → Claim

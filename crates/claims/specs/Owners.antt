@@ -4,6 +4,7 @@ use mathlib.Core.Logic.{_↔_}
 use mathlib.Core.List.{List, _∷_, _++_}
 use Prim.Native.Nat.{ℕ, _+_, _≤_, _<_}
 use Rattle.records.specs.declared.record.RxFrame.{RxFrame}
+use Rattle.records.specs.declared.record.SignalBody.{SignalBody}
 use Rattle.records.specs.declared.record.Record.{Record}
 use Rattle.records.specs.declared.record.Record.the-variants.{Rx, Signal, Destination}
 use Rattle.plan.specs.Rows.{copy, failure, Claim}
@@ -22,8 +23,10 @@ pub record Bits (c : Claim) (t b : ℕ) : Type 0 where
 -- bit b of Tx frame t has an owner
 pub data Owner (rs : List Record) (t b : ℕ) : Type 0 where
   -- "A destination owns its bits in the Tx frame.": as many as the last signal before it has
-  destination : (upto dests rest : List Record) (p s q : ℕ) → rs ≡ upto ++ Signal p s ∷ (dests ++ Destination (record { 0 = t }) q ∷ rest)
-      → Each IsDestination dests → q ≤ b → b < q + s → Owner rs t b
+  destination : (upto dests rest : List Record) (g : SignalBody) (q : ℕ)
+      → rs ≡ upto ++ Signal g ∷ (dests ++ Destination (record { tx = record { 0 = t }; position = q }) ∷ rest)
+      → Each IsDestination dests → q ≤ b → b < q + g .size → Owner rs t b
   -- "An enabled failure indicator owns one bit, at its position, in the Tx frame of the first destination of its frame's first signal."
-  indicator : (front rest : List Record) (x : RxFrame) (p s q : ℕ) → rs ≡ front ++ Rx x ∷ Signal p s ∷ Destination (record { 0 = t }) q ∷ rest
+  indicator : (front rest : List Record) (x : RxFrame) (g : SignalBody) (q : ℕ)
+      → rs ≡ front ++ Rx x ∷ Signal g ∷ Destination (record { tx = record { 0 = t }; position = q }) ∷ rest
       → x .enable ≡ 1 → b ≡ x .position → Owner rs t b

@@ -8,6 +8,7 @@ use Rattle.records.specs.declared.record.RxFrame.{RxFrame}
 use Rattle.records.specs.declared.record.Record.{Record}
 use Rattle.records.specs.declared.record.Record.the-variants.{Head}
 use Rattle.records.specs.Records.{records}
+use Rattle.records.specs.Kinds.{nodeStage}
 use Rattle.plan.specs.declared.verdict.Verdict.the-variants.{Good}
 use Rattle.plan.specs.Check.{checkPlan}
 use Rattle.plan.specs.Rows.{Claim, Row, rowsFrom, rowsOf, allClaims, claimsOf, txFrames, txOf, nodesIn, orderIn}
@@ -24,7 +25,7 @@ abbrev pub ClaimsBySplits : Type 0
 ClaimsBySplits = (rs : List Record) → Each Whole rs → RowsOf rs (rowsFrom 0 rs)
 
 abbrev pub NodesCounted : Type 0
-NodesCounted = (rs : List Record) → Each Whole rs → nodesIn rs ≡ countOf 2 rs
+NodesCounted = (rs : List Record) → Each Whole rs → nodesIn rs ≡ countOf nodeStage rs
 
 abbrev pub HeadOrder : Type 0
 HeadOrder = (rs rest : List Record) (order : ℕ) → rs ≡ Head order ∷ rest → orderIn rs ≡ order
@@ -69,7 +70,7 @@ pub record Said (plan : List ℕ) : Type 0 where
   pub lawful : Lawful (records plan)
   pub frames : Only (FramesOf (records plan)) (txOf plan)
   pub rows : Only (RowsOf (records plan)) (rowsOf plan)
-  pub nodes : nodesIn (records plan) ≡ countOf 2 (records plan)
+  pub nodes : nodesIn (records plan) ≡ countOf nodeStage (records plan)
   pub order : (order : ℕ) × (rest : List Record) × (records plan ≡ Head order ∷ rest) × (orderIn (records plan) ≡ order)
   pub owners : (t b : ℕ) → Owner (records plan) t b ↔ ((c : Claim) × Has (claimsOf plan) c × Holds c t b)
 

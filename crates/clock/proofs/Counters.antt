@@ -1,4 +1,4 @@
--- The counter over the ticks, and the ticks that each mask lets through. Assumes nothing.
+-- The counter over the ticks, and the ticks that each mask lets through.
 use mathlib.Core.Path.{_≡_, refl, sym, ap, _∙_}
 use mathlib.Core.Logic.{⊎-elim}
 use Prim.Native.Nat.{ℕ, zero, suc, _+_, _*_, _<_, _/_, _%_}
@@ -10,7 +10,7 @@ use lib.Dec.{eqb}
 use borrow.Author.Tests.{eq-eqb, ne-eqb}
 use Rattle.base.specs.Pick.{pick}
 use Rattle.base.proofs.Picks.{picks, passes}
-use Rattle.clock.specs.Counter.{counterNext, counterAfter, maskOf, handled, Prescaler}
+use Rattle.clock.specs.Counter.{counterNext, counterAfter, maskOf, noCommonBit, handled, Prescaler}
 use Rattle.clock.specs.Counter.Prescaler.{one, two, ten, twenty}
 
 -- below nine the low digit rises
@@ -70,7 +70,7 @@ low-five q d h =
 
 -- A timer is handled exactly at the ticks, numbered from 0, that its prescaler divides.
 pub handled-divides : {p : ℕ} → Prescaler p → (n : ℕ) → handled (counterAfter n) p ≡ eqb (n % p) 0
-unfolding handled maskOf pick
+unfolding noCommonBit handled maskOf pick
 handled-divides one n = let e : bitAnd (counterAfter n) 0 ≡ n % 1 = and-mask (counterAfter n) 0 ∙ omega arith in rw e
 handled-divides two n = let e : bitAnd (counterAfter n) 1 ≡ n % 2 = and-mask (counterAfter n) 1 ∙ rw (counter-after n) (omega arith) in rw e
 handled-divides ten n = let e : bitAnd (counterAfter n) 15 ≡ n % 10 = and-mask (counterAfter n) 4 ∙ rw (counter-after n) (omega arith) in rw e

@@ -1,3 +1,3 @@
 pub mod Counters
 pub mod Timers
-pub mod Cases
+pub mod ClockCases

@@ -1,4 +1,4 @@
--- The timer over its handlings, and over the ticks. Assumes nothing.
+-- The timer over its handlings, and over the ticks.
 use mathlib.Core.Path.{_≡_, refl, sym, ap, _∙_}
 use mathlib.Core.Logic.{_↔_}
 use mathlib.Core.Bool.{Bool, true, false, false≢true}

@@ -26,6 +26,10 @@ pub data Prescaler : ℕ → Type 0 where
 unfoldable pub maskOf : ℕ → ℕ
 maskOf prescaler = pick (eqb prescaler 1) 0x00 (pick (eqb prescaler 2) 0x01 (pick (eqb prescaler 10) 0x0f 0x1f))
 
--- counter and mask have no common bit
+-- "where the counter and the mask .. have no common bit"
+unfoldable pub noCommonBit : ℕ → ℕ → Bool
+noCommonBit counter mask = eqb (bitAnd counter mask) 0
+
+-- a timer of this prescaler is handled at this counter
 unfoldable pub handled : ℕ → ℕ → Bool
-handled counter prescaler = eqb (bitAnd counter (maskOf prescaler)) 0
+handled counter prescaler = noCommonBit counter (maskOf prescaler)

@@ -1,6 +1,6 @@
 // The two-digit tick counter, and the prescalers that choose among the ticks.
 ghost use mathlib.Core.Path.{_≡_};
-ghost use Rattle.clock.specs.Counter.{counterNext, maskOf, handled};
+ghost use Rattle.clock.specs.Counter.{counterNext, maskOf, noCommonBit, handled};
 
 // The counter moved on: "add one, add six on a low nibble of ten, wrapping add at the top".
 pub fn next(counter: u8) -> u8
@@ -26,9 +26,16 @@ pub fn mask(prescaler: u8) -> u8
     }
 }
 
+// Whether the counter and a mask have no common bit: then a timer with this mask is handled.
+pub fn no_common_bit(counter: u8, mask: u8) -> bool
+    ensures { λ r. ⌜ r ≡ noCommonBit counter mask ⌝ }
+{
+    counter & mask == 0
+}
+
 // Whether a timer of this prescaler is handled at this counter.
 pub fn is_handled(counter: u8, prescaler: u8) -> bool
     ensures { λ r. ⌜ r ≡ handled counter prescaler ⌝ }
 {
-    counter & mask(prescaler) == 0
+    no_common_bit(counter, mask(prescaler))
 }

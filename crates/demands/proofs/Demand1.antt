@@ -1,4 +1,4 @@
--- Demand 1. Assumes nothing.
+-- Demand 1.
 use mathlib.Core.Path.{_≡_, refl}
 use mathlib.Core.Bool.{Bool, true, false}
 use mathlib.Core.List.{List}

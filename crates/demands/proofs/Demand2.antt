@@ -1,4 +1,4 @@
--- Demand 2. Assumes nothing.
+-- Demand 2.
 use Rattle.model.proofs.Meets.{model-meets}
 use Rattle.model.proofs.Decide.{rules-decide}
 use Rattle.model.proofs.RxExpiry.{rx-expiry}

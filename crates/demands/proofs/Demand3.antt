@@ -1,4 +1,4 @@
--- Demand 3. Assumes nothing.
+-- Demand 3.
 use Rattle.history.proofs.Demand3.{plan-stays, every-bit-fresh, calls-alter-theirs}
 use Rattle.demands.specs.Demand3.{Demand3}
 

@@ -1,4 +1,4 @@
--- What no call alters: the area's length, its mark once it is there, and the bytes from 32,768 on. Assumes nothing.
+-- What no call alters: the area's length, its mark once it is there, and the bytes from 32,768 on.
 use mathlib.Core.Path.{_≡_, refl, _∙_}
 use mathlib.Core.Bool.{true}
 use mathlib.Core.List.{List}
@@ -13,7 +13,7 @@ use Rattle.plan.specs.declared.verdict.Verdict.{Verdict}
 use Rattle.plan.specs.declared.verdict.Verdict.the-variants as verdict
 use Rattle.plan.specs.Check.{checkPlan}
 use Rattle.facts.proofs.Bounds.{good-bounds}
-use Rattle.area.specs.Layout.{marked, nodeCount}
+use Rattle.area.specs.Layout.{areaLength, marked, nodeCount}
 use Rattle.area.proofs.Kept.{Kept, kept-refl, kept-dequeued, in-plan, marked-kept}
 use Rattle.answers.specs.declared.Opened.{Opened}
 use Rattle.opening.specs.Opened.{openedAnswer, openedArea}
@@ -52,12 +52,12 @@ opening-stays plan a = let p = go (checkPlan plan) refl in record { size = p .0;
     P : Opened → Type 0
     P x =
         (length (openedArea x plan a) ≡ length a) × (marked a ≡ true → marked (openedArea x plan a) ≡ true)
-        × ((j : ℕ) → 32768 ≤ j → byteAt (openedArea x plan a) j ≡ byteAt a j)
+        × ((j : ℕ) → areaLength ≤ j → byteAt (openedArea x plan a) j ≡ byteAt a j)
 
     go : (v : Verdict) → checkPlan plan ≡ v → P (openedAnswer v (length a))
     go (verdict.Good n t r) e =
         let bounds = good-bounds plan n t r e in
-        cases P (leb 32768 (length a)) _ _
+        cases P (leb areaLength (length a)) _ _
         (λ l.
         (opened-length plan a, (λ m. opened-marked plan a (leb-true _ _ l)), opened-past plan a (omega (arith, bounds .short))))
         (λ l. (refl, (λ m. m), (λ j h. refl)))

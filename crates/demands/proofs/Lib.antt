@@ -1,4 +1,4 @@
-pub mod Cases
+pub mod Twelve
 pub mod NotOpened
 pub mod OpeningAnswers
 pub mod Kept

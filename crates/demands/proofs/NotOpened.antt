@@ -1,4 +1,4 @@
--- Refusal 11 of a call is given exactly where the area is short or bears no mark. Assumes nothing.
+-- Refusal 11 of a call is given exactly where the area is short or bears no mark.
 use mathlib.Core.Path.{_≡_, refl, sym, _∙_}
 use mathlib.Core.Logic.{_↔_}
 use mathlib.Core.Bool.{Bool, true, false, true≢false}

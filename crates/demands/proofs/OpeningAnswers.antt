@@ -1,4 +1,4 @@
--- What an opening answers: refused exactly by the refusal table, then for a short area, and else it succeeds. Assumes nothing.
+-- What an opening answers: refused exactly by the refusal table, then for a short area, and else it succeeds.
 use mathlib.Core.Path.{_≡_, refl, sym, _∙_}
 use mathlib.Core.Logic.{_⊎_, inl, inr}
 use mathlib.Core.Bool.{Bool, true, false}
@@ -16,6 +16,7 @@ use Rattle.plan.specs.declared.verdict.Verdict.the-variants as verdict
 use Rattle.plan.specs.Refusals.{numberOf}
 use Rattle.plan.specs.Check.{checkPlan}
 use Rattle.facts.specs.Good.{countOf}
+use Rattle.area.specs.Layout.{areaLength}
 use Rattle.refusals.specs.Table.{Refuses, Unrefused}
 use Rattle.refusals.proofs.Exactly.{refused-exactly, good-exactly, good-unrefused}
 use Rattle.answers.specs.declared.Refusal.{Refusal}
@@ -48,7 +49,10 @@ module _ (plan a : List ℕ) where
     of-refused : OpeningAnswers plan a
     of-refused =
         record {
-          bad = λ reason at. (λ d. let f : Refused (BadPlan why) k ≡ Refused (BadPlan reason) at = sym answers ∙ d in same reason at f, λ r. answers ∙ one reason at r);
+          bad = λ reason at. (
+            λ d. let f : Refused (BadPlan why) k ≡ Refused (BadPlan reason) at = sym answers ∙ d in same reason at f,
+            λ r. answers ∙ one reason at r,
+          );
           short = λ at. (λ d. let f = sym answers ∙ d in absurd (no cc), λ h. absurd (h .0 (numberOf why) k refused));
           good = λ n t r. (λ d. let f = sym answers ∙ d in absurd (no cc), λ h. absurd (h .good (numberOf why) k refused));
           nothing-else = λ x at d. let f = sym answers ∙ d in inl (why, cc);
@@ -63,13 +67,13 @@ module _ (plan a : List ℕ) where
   -- ---- a plan that it calls good
 
   module _ (u : Unrefused plan) (e : checkPlan plan ≡ verdict.Good (countOf 2 (records plan)) (countOf 3 (records plan)) (countOf 4 (records plan))) where
-    of-good : (t : Bool) → leb 32768 (length a) ≡ t → OpeningAnswers plan a
+    of-good : (t : Bool) → leb areaLength (length a) ≡ t → OpeningAnswers plan a
     unfolding openedAnswer
     of-good true l =
         let x : openAnswer plan a ≡ Open (countOf 2 (records plan)) (countOf 3 (records plan)) (countOf 4 (records plan)) = rw e (picks _ _ _ l) in
         record {
           bad = λ reason at. (λ d. let f = sym x ∙ d in absurd (no cc), λ r. absurd (u (numberOf reason) at r));
-          short = λ at. (λ d. let f = sym x ∙ d in absurd (no cc), λ h. absurd (no (false-true (sym (lt-leb 32768 (length a) (h .1)) ∙ l))));
+          short = λ at. (λ d. let f = sym x ∙ d in absurd (no cc), λ h. absurd (no (false-true (sym (lt-leb areaLength (length a) (h .1)) ∙ l))));
           good = λ n t r. (
             (λ d.
                 let f : Open (countOf 2 (records plan)) (countOf 3 (records plan)) (countOf 4 (records plan)) ≡ Open n t r = sym x ∙ d in
@@ -89,7 +93,7 @@ module _ (plan a : List ℕ) where
             (λ d. let f : Refused ShortArea 0 ≡ Refused ShortArea at = sym x ∙ d in (u, leb-false _ _ l, cc)),
             (λ h. x ∙ rw (h .2)),
           );
-          good = λ n t r. (λ d. let f = sym x ∙ d in absurd (no cc), λ h. let g = sym (le-leb 32768 (length a) (h .long)) ∙ l in absurd (no cc));
+          good = λ n t r. (λ d. let f = sym x ∙ d in absurd (no cc), λ h. let g = sym (le-leb areaLength (length a) (h .long)) ∙ l in absurd (no cc));
           nothing-else = λ y at d. let f = sym x ∙ d in inr cc;
         }
 
@@ -99,4 +103,4 @@ module _ (plan a : List ℕ) where
       go : (v : Verdict) → checkPlan plan ≡ v → OpeningAnswers plan a
       go (verdict.Refused why k) e = of-refused why k e
       go (verdict.Good n t r) e =
-          let u = good-unrefused plan n t r e in of-good u (good-exactly plan .1 u) (leb 32768 (length a)) refl
+          let u = good-unrefused plan n t r e in of-good u (good-exactly plan .1 u) (leb areaLength (length a)) refl

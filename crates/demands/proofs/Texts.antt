@@ -1,9 +1,9 @@
--- The second texts. Assumes nothing.
+-- The second texts.
 use Rattle.encoding.proofs.Decode.{decodes-encoded}
 use Rattle.encoding.proofs.Encode.{encodes-good}
 use Rattle.encoding.proofs.Sizes.{sizes-agree}
 use Rattle.encoding.proofs.Broken.{broken-exactly}
-use Rattle.encoding.proofs.Cases.{kinds-hold}
+use Rattle.encoding.proofs.KindCases.{kinds-hold}
 use Rattle.claims.proofs.Said.{good-said}
 use Rattle.claims.proofs.Examples.{written}
 use Rattle.refusals.proofs.Exactly.{refused-exactly, good-exactly, one-refusal}

@@ -1,4 +1,4 @@
-pub mod Cases
+pub mod Twelve
 pub mod Numbers
 pub mod Texts
 pub mod Demand1

@@ -1,6 +1,6 @@
 -- What the model, the rules and the byte definitions all use, each said a second time in other words, and proved to be one.
 use Rattle.encoding.specs.Encode.{DecodesEncoded, EncodesGood, SizesAgree, BrokenExactly}
-use Rattle.encoding.specs.Cases.{KindsHold}
+use Rattle.encoding.specs.KindCases.{KindsHold}
 use Rattle.claims.specs.Statements.{GoodSaid}
 use Rattle.claims.specs.Examples.{Written}
 use Rattle.refusals.specs.Statements.{RefusedExactly, GoodExactly, OneRefusal}

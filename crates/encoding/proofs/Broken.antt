@@ -1,4 +1,4 @@
--- Where no whole record stands. Assumes nothing.
+-- Where no whole record stands.
 use mathlib.Core.Path.{_≡_, refl, sym, ap, _∙_}
 use mathlib.Core.Logic.{_⊎_, inl, inr, ⊎-elim}
 use mathlib.Core.List.{List}
@@ -7,40 +7,24 @@ use native.Mathlib.Decide.{decLt, decLe}
 use native.Mathlib.Omega.{arith}
 use lib.ListN.{length}
 use Rattle.base.specs.Numbers.{byteAt}
-use Rattle.base.proofs.Picks.{by-eqb}
-use Rattle.records.specs.declared.record.Record.the-variants.{BadKind, Cut}
-use Rattle.records.specs.Records.{lengthOf, fieldsAt, recordAt}
-use Rattle.records.proofs.RecordLaws.{no-length, record-end, end-only, record-bad, record-cut, record-whole}
+use Rattle.base.specs.Pick.{pick}
+use Rattle.records.specs.declared.record.Record.the-variants.{Broken}
+use Rattle.records.specs.declared.record.Fault.the-variants.{BadKind, Cut}
+use Rattle.records.specs.Kinds.{formOf, lengthOf, fieldsAt}
+use Rattle.records.specs.Records.{recordAt}
+use Rattle.records.proofs.RecordLaws.{record-end, end-only, record-bad, record-cut, record-whole}
 use Rattle.encoding.specs.Encode.{Whole, BrokenExactly}
+use Rattle.encoding.proofs.Sizes.{by-number, unknown}
 
 -- a record of a kind has bytes, and its fields are a whole record
 known : (kind : ℕ) → 0 < kind → kind ≤ 6 → 0 < lengthOf kind
-unfolding lengthOf
+unfolding lengthOf formOf pick
 known kind l h =
-    let P : ℕ → Type 0 = λ n. 0 < n in
-    by-eqb P kind 1 _ _ (λ e. omega arith) (λ n1.
-    by-eqb P kind 2 _ _ (λ e. omega arith) (λ n2.
-    by-eqb P kind 3 _ _ (λ e. omega arith) (λ n3.
-    by-eqb P kind 4 _ _ (λ e. omega arith) (λ n4.
-    by-eqb P kind 5 _ _ (λ e. omega arith) (λ n5.
-    by-eqb P kind 6 _ _ (λ e. omega arith) (λ n6. absurd (omega arith)))))))
-
-unknown : (kind : ℕ) → (0 < kind → kind ≤ 6 → ⊥) → lengthOf kind ≡ 0
-unknown kind d =
-    let other : (k : ℕ) → 0 < k → k ≤ 6 → kind ≡ k → ⊥ = λ k l h e. d (rw e l) (rw e h) in
-    sym
-    (no-length kind (other 1 (omega arith) (omega arith)) (other 2 (omega arith) (omega arith)) (other 3 (omega arith) (omega arith))
-    (other 4 (omega arith) (omega arith)) (other 5 (omega arith) (omega arith)) (other 6 (omega arith) (omega arith)))
+    by-number (λ k. 0 < lengthOf k) (omega arith) (omega arith) (omega arith) (omega arith) (omega arith) (omega arith) kind (λ d. absurd (d l h))
 
 fields-whole : (kind : ℕ) (plan : List ℕ) (at : ℕ) → 0 < kind → kind ≤ 6 → Whole (fieldsAt kind plan at)
-unfolding fieldsAt Whole
-fields-whole kind plan at l h =
-    by-eqb Whole kind 1 _ _ (λ e. tt) (λ n1.
-    by-eqb Whole kind 2 _ _ (λ e. tt) (λ n2.
-    by-eqb Whole kind 3 _ _ (λ e. tt) (λ n3.
-    by-eqb Whole kind 4 _ _ (λ e. tt) (λ n4.
-    by-eqb Whole kind 5 _ _ (λ e. tt) (λ n5.
-    by-eqb Whole kind 6 _ _ (λ e. tt) (λ n6. absurd (omega arith)))))))
+unfolding fieldsAt formOf pick Whole
+fields-whole kind plan at l h = by-number (λ k. Whole (fieldsAt k plan at)) tt tt tt tt tt tt kind (λ d. absurd (d l h))
 
 module _ (plan : List ℕ) (at : ℕ) (inside : at < length plan) where
   abbrev kind : ℕ
@@ -53,13 +37,13 @@ module _ (plan : List ℕ) (at : ℕ) (inside : at < length plan) where
   Short k = (kind ≡ k) × (0 < k) × (k ≤ 6) × (length plan < at + lengthOf k)
 
   -- one of three stands there
-  bad-there : NoKind → recordAt plan at ≡ BadKind
+  bad-there : NoKind → recordAt plan at ≡ Broken BadKind
   bad-there w = sym (record-bad plan at inside (unknown kind (λ l h. ⊎-elim (λ e. omega arith) (λ e. omega arith) w)))
 
-  cut-there : (k : ℕ) → Short k → recordAt plan at ≡ Cut k
+  cut-there : (k : ℕ) → Short k → recordAt plan at ≡ Broken (Cut k)
   cut-there k w =
       let same : lengthOf kind ≡ lengthOf k = ap lengthOf (w .0) in
-      sym (record-cut plan at inside (omega (arith, known k (w .1) (w .2))) (omega arith)) ∙ ap Cut (w .0)
+      sym (record-cut plan at inside (omega (arith, known k (w .1) (w .2))) (omega arith)) ∙ ap (λ (k : ℕ). Broken (Cut k)) (w .0)
 
   whole-there : 0 < kind → kind ≤ 6 → at + lengthOf kind ≤ length plan → Whole (recordAt plan at)
   whole-there l h m = rw (← (record-whole plan at inside (known kind l h) (omega arith))) (fields-whole kind plan at l h)
@@ -73,14 +57,14 @@ module _ (plan : List ℕ) (at : ℕ) (inside : at < length plan) where
       go (yes l) (yes h) (yes m) = inr (inl (refl, l, h, m))
       go (yes l) (yes h) (no m) = inr (inr (whole-there l h (omega arith)))
 
-  bad-only : recordAt plan at ≡ BadKind → NoKind
+  bad-only : recordAt plan at ≡ Broken BadKind → NoKind
   unfolding Whole
   bad-only e =
       ⊎-elim (λ w. w)
       (⊎-elim (λ w. let c = cut-there kind w in let z : _≡_ {A = ℕ} 0 1 = cc in absurd (omega arith)) (λ w. absurd (rw e at w)))
       there
 
-  cut-only : (k : ℕ) → recordAt plan at ≡ Cut k → Short k
+  cut-only : (k : ℕ) → recordAt plan at ≡ Broken (Cut k) → Short k
   unfolding Whole
   cut-only k e =
       ⊎-elim (λ w. let c = bad-there w in let z : _≡_ {A = ℕ} 0 1 = cc in absurd (omega arith))

@@ -1,4 +1,4 @@
--- What is encoded is decoded. Assumes nothing.
+-- What is encoded is decoded.
 use mathlib.Core.Path.{_≡_, refl, sym, ap, _∙_}
 use mathlib.Core.List.{List, [], _∷_, _++_, append-assoc}
 use Prim.Native.Nat.{ℕ, _+_, _-_, _/_, _%_, _≤_, _<_}
@@ -10,10 +10,13 @@ use Rattle.base.specs.Pick.{pick}
 use Rattle.base.specs.Numbers.{byteAt, twoAt}
 use Rattle.records.specs.declared.record.TxFrame.{TxFrame}
 use Rattle.records.specs.declared.record.RxFrame.{RxFrame}
-use Rattle.records.specs.declared.record.TxNumber.{TxNumber}
+use Rattle.records.specs.declared.record.NodeBody.{NodeBody}
+use Rattle.records.specs.declared.record.SignalBody.{SignalBody}
+use Rattle.records.specs.declared.record.DestinationBody.{DestinationBody}
 use Rattle.records.specs.declared.record.Record.{Record}
-use Rattle.records.specs.declared.record.Record.the-variants.{Head, Node, Tx, Rx, Signal, Destination, BadKind, Cut, End}
-use Rattle.records.specs.Records.{lengthOf, eightAt, txAt, rxAt, fieldsAt, recordAt, sizeOf, recordsAt, records}
+use Rattle.records.specs.declared.record.Record.the-variants.{Head, Node, Tx, Rx, Signal, Destination, Broken}
+use Rattle.records.specs.Kinds.{formOf, lengthOf, eightAt, txAt, rxAt, fieldsAt}
+use Rattle.records.specs.Records.{recordAt, sizeOf, recordsAt, records}
 use Rattle.records.proofs.RecordLaws.{record-whole, records-end, records-step}
 use Rattle.facts.specs.Good.{Each}
 use Rattle.encoding.specs.Encode.{bytesOf, encode, Whole, DecodesPlaced, DecodesEncoded}
@@ -52,38 +55,46 @@ module _ (front xs rest : List ℕ) where
 
 -- ---- each kind
 
-number-is : (x : TxNumber) (v : ℕ) → v ≡ x .0 → _≡_ {A = TxNumber} (record { 0 = v }) x
-number-is x v e i = record { 0 = e i }
-
 module _ (front rest : List ℕ) where
   -- a record's bytes, read where they stand
   abbrev Read : Record → Type 0
   Read r = recordAt (front ++ (bytesOf r ++ rest)) (length front) ≡ r
 
   head : (order : ℕ) → Read (Head order)
-  unfolding bytesOf fieldsAt pick lengthOf
+  unfolding bytesOf fieldsAt formOf pick lengthOf
   head order = is-record front (1 ∷ order ∷ []) rest 1 (Head order) refl refl (omega arith) (ap Head (byte front (1 ∷ order ∷ []) rest 1))
 
-  node : (type : ℕ) → Read (Node type)
-  unfolding bytesOf fieldsAt pick lengthOf
-  node type = is-record front (2 ∷ type ∷ []) rest 2 (Node type) refl refl (omega arith) (ap Node (byte front (2 ∷ type ∷ []) rest 1))
+  node : (body : NodeBody) → Read (Node body)
+  unfolding bytesOf fieldsAt formOf pick lengthOf
+  node body =
+      let xs : List ℕ = 2 ∷ body .of ∷ [] in
+      let fields : _≡_ {A = NodeBody} (record { of = byteAt (front ++ (xs ++ rest)) (length front + 1) }) body = λ i. record { of = byte front xs rest 1 i } in
+      is-record front xs rest 2 (Node body) refl refl (omega arith) (ap Node fields)
 
-  signal : (p s : ℕ) → Read (Signal p s)
-  unfolding bytesOf fieldsAt pick lengthOf
-  signal p s =
-      let xs : List ℕ = 5 ∷ p ∷ s ∷ [] in
-      is-record front xs rest 5 (Signal p s) refl refl (omega arith) (rw (byte front xs rest 1, byte front xs rest 2))
+  signal : (body : SignalBody) → Read (Signal body)
+  unfolding bytesOf fieldsAt formOf pick lengthOf
+  signal body = is-record front (bytesOf (Signal body)) rest 5 (Signal body) refl refl (omega arith) (ap Signal fields)
+    where
+      fields : _≡_ {A = SignalBody} (record {
+        position = byteAt (front ++ (bytesOf (Signal body) ++ rest)) (length front + 1);
+        size = byteAt (front ++ (bytesOf (Signal body) ++ rest)) (length front + 2);
+      }) body
+      fields = let b = byte front (bytesOf (Signal body)) rest in λ i. record { position = b 1 i; size = b 2 i }
 
-  destination : (t : TxNumber) (q : ℕ) → Read (Destination t q)
-  unfolding bytesOf fieldsAt pick lengthOf
-  destination t q =
-      let xs : List ℕ = 6 ∷ t .0 / 256 ∷ t .0 % 256 ∷ q ∷ [] in
-      is-record front xs rest 6 (Destination t q) refl refl (omega arith)
-      (ap (λ (z : TxNumber). Destination z (byteAt (front ++ (xs ++ rest)) (length front + 3))) (number-is t _ (two front xs rest 1 (t .0) refl refl))
-      ∙ ap (λ z. Destination t z) (byte front xs rest 3))
+  destination : (body : DestinationBody) → Read (Destination body)
+  unfolding bytesOf fieldsAt formOf pick lengthOf
+  destination body = is-record front (bytesOf (Destination body)) rest 6 (Destination body) refl refl (omega arith) (ap Destination fields)
+    where
+      fields : _≡_ {A = DestinationBody} (record {
+        tx = record { 0 = twoAt (front ++ (bytesOf (Destination body) ++ rest)) (length front + 1) };
+        position = byteAt (front ++ (bytesOf (Destination body) ++ rest)) (length front + 3);
+      }) body
+      fields =
+          let xs = bytesOf (Destination body) in
+          λ i. record { tx = record { 0 = two front xs rest 1 (body .tx .0) refl refl i }; position = byte front xs rest 3 i }
 
   tx : (x : TxFrame) → Read (Tx x)
-  unfolding bytesOf fieldsAt pick lengthOf
+  unfolding bytesOf fieldsAt formOf pick lengthOf
   tx x = is-record front (bytesOf (Tx x)) rest 3 (Tx x) refl refl (omega arith) (ap Tx fields)
     where
       p : (k : ℕ) → byteAt (front ++ (bytesOf (Tx x) ++ rest)) (length front + 9 + k) ≡ byteAt (bytesOf (Tx x) ++ rest) (9 + k)
@@ -106,7 +117,7 @@ module _ (front rest : List ℕ) where
           }
 
   rx : (x : RxFrame) → Read (Rx x)
-  unfolding bytesOf fieldsAt pick lengthOf
+  unfolding bytesOf fieldsAt formOf pick lengthOf
   rx x = is-record front (bytesOf (Rx x)) rest 4 (Rx x) refl refl (omega arith) (ap Rx fields)
     where
       fields : rxAt (front ++ (bytesOf (Rx x) ++ rest)) (length front) ≡ x
@@ -129,14 +140,12 @@ module _ (front rest : List ℕ) where
 pub decodes-placed : DecodesPlaced
 unfolding Whole
 decodes-placed front rest (Head order) w = head front rest order
-decodes-placed front rest (Node type) w = node front rest type
+decodes-placed front rest (Node body) w = node front rest body
 decodes-placed front rest (Tx x) w = tx front rest x
 decodes-placed front rest (Rx x) w = rx front rest x
-decodes-placed front rest (Signal p s) w = signal front rest p s
-decodes-placed front rest (Destination t q) w = destination front rest t q
-decodes-placed front rest BadKind w = absurd w
-decodes-placed front rest (Cut kind) w = absurd w
-decodes-placed front rest End w = absurd w
+decodes-placed front rest (Signal body) w = signal front rest body
+decodes-placed front rest (Destination body) w = destination front rest body
+decodes-placed front rest (Broken fault) w = absurd w
 
 -- ---- all records
 

@@ -1,27 +1,28 @@
--- What is decoded is encoded. Assumes nothing.
+-- What is decoded is encoded.
 use mathlib.Core.Path.{_≡_, refl, sym, ap, _∙_}
 use mathlib.Core.Logic.{dite}
-use mathlib.Core.Bool.{false≢true}
 use mathlib.Core.List.{List, [], _∷_, _++_}
 use Prim.Native.Nat.{ℕ, zero, suc, _+_, _-_, _/_, _%_, _≤_, _<_}
 use native.Mathlib.Decide.{decLt}
 use native.Mathlib.Omega.{arith}
 use native.Mathlib.Nat.{add-zero}
-use borrow.Author.Tests.{ltb-false}
+use borrow.Author.Tests.{ltb-false, eqb-false}
 use lib.Dec.{leb, ltb, eqb}
 use lib.ListN.{length, drop, drop-of-length-le}
 use lib.Seq.{drop-cons}
 use Rattle.base.specs.Pick.{pick}
 use Rattle.base.specs.Numbers.{byteAt, twoAt, Bytes}
-use Rattle.base.proofs.Picks.{cases, by-eqb}
+use Rattle.base.proofs.Picks.{cases}
 use Rattle.records.specs.declared.record.Record.{Record}
-use Rattle.records.specs.declared.record.Record.the-variants.{Head, Node, Tx, Rx, Signal, Destination, BadKind, Cut, End}
-use Rattle.records.specs.Records.{lengthOf, eightAt, txAt, rxAt, fieldsAt, recordAt, sizeOf, recordsAt, records}
+use Rattle.records.specs.declared.record.Record.the-variants.{Head, Node, Tx, Rx, Signal, Destination, Broken}
+use Rattle.records.specs.Kinds.{formOf, lengthOf, kindOf, eightAt, txAt, rxAt, fieldsAt}
+use Rattle.records.specs.Records.{recordAt, sizeOf, recordsAt, records}
 use Rattle.records.proofs.RecordLaws.{record-some, records-end, records-step}
-use Rattle.plan.specs.Tests.{isKind, isWhole}
+use Rattle.plan.proofs.TestLaws.{no-fault}
 use Rattle.facts.specs.Good.{Each, Placed, InPlace}
 use Rattle.facts.proofs.GoodFacts.{good-facts}
 use Rattle.encoding.specs.Encode.{bytesOf, encode, Whole, EncodesDecoded, EncodesGood}
+use Rattle.encoding.proofs.Sizes.{by-number, unknown}
 
 module _ (plan : List ℕ) (b : Bytes plan) (at : ℕ) where
   -- k bytes, from the i-th after a place on
@@ -62,7 +63,8 @@ module _ (plan : List ℕ) (b : Bytes plan) (at : ℕ) where
   unfolding bytesOf rxAt
   rx-bytes e = λ i. (sym e ∙ first) i ∷ byteAt plan (at + 1) ∷ high 2 i ∷ low 2 i ∷ span 4 7
 
-  destination-bytes : byteAt plan at ≡ 6 → bytesOf (Destination (record { 0 = twoAt plan (at + 1) }) (byteAt plan (at + 3))) ≡ span 0 4
+  destination-bytes : byteAt plan at ≡ 6 → bytesOf (Destination (record { tx = record { 0 = twoAt plan (at + 1) }; position = byteAt plan (at + 3) }))
+      ≡ span 0 4
   unfolding bytesOf
   destination-bytes e = λ i. (sym e ∙ first) i ∷ high 1 i ∷ low 1 i ∷ span 3 1
 
@@ -75,22 +77,18 @@ module _ (plan : List ℕ) (b : Bytes plan) (at : ℕ) where
       let n : at + 0 + k ≡ at + k = omega arith in
       rw (z, e) (rw (n, add-zero at) at (span-rest k 0 (omega arith)))
 
-  fields-rest : lengthOf (byteAt plan at) ≤ length plan - at → at < length plan → Rests (fieldsAt (byteAt plan at) plan at)
-  unfolding fieldsAt lengthOf bytesOf sizeOf pick
-  fields-rest l h =
-      let kind = byteAt plan at in
-      by-eqb Rests kind 1 _ _ (λ e. rests _ 2 refl (room 1 e l) (λ i. (sym e ∙ first) i ∷ span 1 1)) (λ n1.
-      by-eqb Rests kind 2 _ _ (λ e. rests _ 2 refl (room 2 e l) (λ i. (sym e ∙ first) i ∷ span 1 1)) (λ n2.
-      by-eqb Rests kind 3 _ _ (λ e. rests _ 17 refl (room 3 e l) (tx-bytes e)) (λ n3.
-      by-eqb Rests kind 4 _ _ (λ e. rests _ 11 refl (room 4 e l) (rx-bytes e)) (λ n4.
-      by-eqb Rests kind 5 _ _ (λ e. rests _ 3 refl (room 5 e l) (λ i. (sym e ∙ first) i ∷ span 1 2)) (λ n5.
-      by-eqb Rests kind 6 _ _ (λ e. rests _ 4 refl (room 6 e l) (destination-bytes e)) (λ n6 w. absurd (no-whole w)))))))
-    where
-      room : (k : ℕ) → byteAt plan at ≡ k → lengthOf (byteAt plan at) ≤ length plan - at → at + lengthOf k ≤ length plan
-      room k e l = omega (arith, ap lengthOf e)
-
-      no-whole : Whole BadKind → ⊥
-      no-whole w = unfold Whole in w
+  fields-rest : (kind : ℕ) → 0 < lengthOf kind → byteAt plan at ≡ kind → at + lengthOf kind ≤ length plan → Rests (fieldsAt kind plan at)
+  unfolding fieldsAt lengthOf formOf kindOf bytesOf sizeOf pick
+  fields-rest kind some =
+      by-number (λ k. byteAt plan at ≡ k → at + lengthOf k ≤ length plan → Rests (fieldsAt k plan at))
+      (λ e room. rests _ 2 refl room (λ i. (sym e ∙ first) i ∷ span 1 1))
+      (λ e room. rests _ 2 refl room (λ i. (sym e ∙ first) i ∷ span 1 1))
+      (λ e room. rests _ 17 refl room (tx-bytes e))
+      (λ e room. rests _ 11 refl room (rx-bytes e))
+      (λ e room. rests _ 3 refl room (λ i. (sym e ∙ first) i ∷ span 1 2))
+      (λ e room. rests _ 4 refl room (destination-bytes e))
+      kind
+      (λ d. absurd (omega (arith, unknown kind d)))
 
 -- the record at a place
 record-rests : (plan : List ℕ) (b : Bytes plan) (at : ℕ) → at < length plan → Rests plan b at (recordAt plan at)
@@ -100,7 +98,9 @@ record-rests plan b at h =
     let P = Rests plan b at in
     cases P (leb (length plan) at) _ _ (λ t w. absurd w) (λ t.
     cases P (eqb (lengthOf kind) 0) _ _ (λ z w. absurd w) (λ z.
-    cases P (ltb (length plan - at) (lengthOf kind)) _ _ (λ s w. absurd w) (λ s. fields-rest plan b at (ltb-false _ _ s) h)))
+    cases P (ltb (length plan - at) (lengthOf kind)) _ _ (λ s w. absurd w) (λ s.
+    fields-rest plan b at kind (omega (arith, eqb-false (lengthOf kind) 0 z)) refl
+    (omega (arith, ltb-false (length plan - at) (lengthOf kind) s)))))
 
 -- ---- all records
 
@@ -132,16 +132,14 @@ encodes-decoded plan b w = from (length plan) plan 0 b (omega arith) w
 -- ---- a good plan's records are whole
 
 placed-whole : (last : ℕ) (r : Record) → Placed last r → Whole r
-unfolding Whole isKind isWhole
+unfolding Whole
 placed-whole last (Head order) p = tt
-placed-whole last (Node type) p = tt
+placed-whole last (Node body) p = tt
 placed-whole last (Tx x) p = tt
 placed-whole last (Rx x) p = tt
-placed-whole last (Signal position size) p = tt
-placed-whole last (Destination tx position) p = tt
-placed-whole last BadKind p = absurd (false≢true (p .known))
-placed-whole last (Cut kind) p = absurd (false≢true (p .whole))
-placed-whole last End p = absurd (false≢true (p .known))
+placed-whole last (Signal body) p = tt
+placed-whole last (Destination body) p = tt
+placed-whole last (Broken fault) p = no-fault fault (p .known) (p .whole)
 
 all-whole : (last : ℕ) (rs : List Record) → InPlace last rs → Each Whole rs
 unfolding InPlace Each

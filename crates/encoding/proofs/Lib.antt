@@ -2,4 +2,4 @@ pub mod Sizes
 pub mod Decode
 pub mod Encode
 pub mod Broken
-pub mod Cases
+pub mod KindCases

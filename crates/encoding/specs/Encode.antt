@@ -7,8 +7,11 @@ use Prim.Native.Nat.{ℕ, _+_, _/_, _%_, _≤_, _<_}
 use lib.ListN.{length}
 use Rattle.base.specs.Numbers.{byteAt, Bytes}
 use Rattle.records.specs.declared.record.Record.{Record}
-use Rattle.records.specs.declared.record.Record.the-variants.{Head, Node, Tx, Rx, Signal, Destination, BadKind, Cut, End}
-use Rattle.records.specs.Records.{lengthOf, recordAt, kindOf, sizeOf, records, eightBytes}
+use Rattle.records.specs.declared.record.Record.the-variants.{Head, Node, Tx, Rx, Signal, Destination, Broken}
+use Rattle.records.specs.declared.record.Fault.the-variants.{End, BadKind, Cut}
+use Rattle.records.specs.Views.{onBroken}
+use Rattle.records.specs.Kinds.{lengthOf, kindOf}
+use Rattle.records.specs.Records.{recordAt, sizeOf, records, eightBytes}
 use Rattle.plan.specs.declared.verdict.Verdict.the-variants.{Good}
 use Rattle.plan.specs.Check.{checkPlan}
 use Rattle.facts.specs.Good.{Each}
@@ -22,16 +25,14 @@ twoBytes v = v / 256 ∷ v % 256 ∷ []
 -- no bytes where there is no whole record
 unfoldable pub bytesOf : Record → List ℕ
 bytesOf (Head order) = 1 ∷ order ∷ []
-bytesOf (Node type) = 2 ∷ type ∷ []
+bytesOf (Node body) = 2 ∷ body .of ∷ []
 bytesOf (Tx x) =
     3 ∷ x .node ∷ twoBytes (x .id) ++ x .size ∷ x .prescaler ∷ x .reload ∷ x .initial ∷ x .flags ∷ eightBytes (x .payload)
 bytesOf (Rx x) =
     4 ∷ x .node ∷ twoBytes (x .id) ++ x .size ∷ x .prescaler ∷ x .reload ∷ x .initial ∷ x .enable ∷ x .position ∷ x .long ∷ []
-bytesOf (Signal position size) = 5 ∷ position ∷ size ∷ []
-bytesOf (Destination tx position) = 6 ∷ twoBytes (tx .0) ++ position ∷ []
-bytesOf BadKind = []
-bytesOf (Cut kind) = []
-bytesOf End = []
+bytesOf (Signal body) = 5 ∷ body .position ∷ body .size ∷ []
+bytesOf (Destination body) = 6 ∷ twoBytes (body .tx .0) ++ body .position ∷ []
+bytesOf (Broken fault) = []
 
 -- the bytes of a plan
 unfoldable pub encode : List Record → List ℕ
@@ -42,15 +43,7 @@ encode (r ∷ rs) = bytesOf r ++ encode rs
 
 -- a whole record of a kind that there is
 unfoldable pub Whole : Record → Type 0
-Whole (Head order) = Unit {0}
-Whole (Node type) = Unit {0}
-Whole (Tx x) = Unit {0}
-Whole (Rx x) = Unit {0}
-Whole (Signal position size) = Unit {0}
-Whole (Destination tx position) = Unit {0}
-Whole BadKind = ⊥
-Whole (Cut kind) = ⊥
-Whole End = ⊥
+Whole r = onBroken (Unit {0}) (λ fault. ⊥) r
 
 -- what is encoded is decoded, at each place and as a plan
 abbrev pub DecodesPlaced : Type 0
@@ -79,12 +72,12 @@ SizesAgree = (r : Record) → Whole r → Sized r
 
 -- ---- where no whole record stands: 1 "the record runs past its end", 2 "the kind is not 1–6", and the plan's end
 
-pub record Broken (plan : List ℕ) (at : ℕ) : Type 0 where
-  pub end : (recordAt plan at ≡ End) ↔ (length plan ≤ at)
-  pub bad : at < length plan → (recordAt plan at ≡ BadKind) ↔ ((byteAt plan at ≡ 0) ⊎ (6 < byteAt plan at))
+pub record BrokenAt (plan : List ℕ) (at : ℕ) : Type 0 where
+  pub end : (recordAt plan at ≡ Broken End) ↔ (length plan ≤ at)
+  pub bad : at < length plan → (recordAt plan at ≡ Broken BadKind) ↔ ((byteAt plan at ≡ 0) ⊎ (6 < byteAt plan at))
   pub cut :
       at < length plan → (kind : ℕ)
-      → (recordAt plan at ≡ Cut kind) ↔ ((byteAt plan at ≡ kind) × (0 < kind) × (kind ≤ 6) × (length plan < at + lengthOf kind))
+      → (recordAt plan at ≡ Broken (Cut kind)) ↔ ((byteAt plan at ≡ kind) × (0 < kind) × (kind ≤ 6) × (length plan < at + lengthOf kind))
 
 abbrev pub BrokenExactly : Type 0
-BrokenExactly = (plan : List ℕ) (at : ℕ) → Broken plan at
+BrokenExactly = (plan : List ℕ) (at : ℕ) → BrokenAt plan at

@@ -1,2 +1,2 @@
 pub mod Encode
-pub mod Cases
+pub mod KindCases

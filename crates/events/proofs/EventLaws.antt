@@ -1,4 +1,4 @@
--- Laws of the input's front and of the event at a place. Assumes nothing.
+-- Laws of the input's front and of the event at a place.
 use mathlib.Core.Path.{_≡_, sym}
 use mathlib.Core.List.{List}
 use Prim.Native.Nat.{ℕ, _+_, _-_, _≤_, _<_}

@@ -1,16 +1,18 @@
--- The bounds of a good plan, from its facts. Assumes nothing.
-use mathlib.Core.Path.{_≡_, _∙_}
+-- The bounds of a good plan, from its facts.
+use mathlib.Core.Path.{_≡_, sym, subst, _∙_}
 use mathlib.Core.Bool.{true}
 use mathlib.Core.List.{List, [], _∷_}
 use Prim.Native.Nat.{ℕ, zero, suc, _+_, _≤_, _<_}
 use native.Mathlib.Omega.{arith}
 use lib.ListN.{length, getD}
+use Rattle.records.specs.declared.record.TxFrame.{TxFrame}
 use Rattle.records.specs.declared.record.Record.{Record}
-use Rattle.records.specs.declared.record.Record.the-variants.{Head, Node, Tx, Rx, Signal, Destination, BadKind, Cut, End}
+use Rattle.records.specs.declared.record.Record.the-variants.{Head, Node, Tx, Rx, Signal, Destination, Broken}
 use Rattle.records.specs.Records.{records}
 use Rattle.plan.specs.Tests.{inRange}
 use Rattle.plan.specs.Rows.{Row, rowOf, rowsFrom, rowsOf, claimsOf, txFrames, txOf}
-use Rattle.plan.proofs.TestLaws.{tx-ranges}
+use Rattle.plan.proofs.TestLaws.{TxRanges, tx-ranges}
+use Rattle.records.proofs.Variants.{by-tx}
 use Rattle.facts.specs.Good.{Each, sizesOf, GoodPlan}
 use Rattle.facts.specs.Statements.{Small, GoodBounds, RowNumbers}
 use Rattle.facts.proofs.Lists.{each-map}
@@ -19,20 +21,19 @@ use Rattle.facts.proofs.Lengths.{plan-length}
 use Rattle.facts.proofs.Sizes.{sizes-length}
 use Rattle.facts.proofs.GoodFacts.{good-facts}
 
--- no Tx frame has more than eight bytes
-tx-size : (n : ℕ) (rs : List Record) (t : ℕ) → Each (λ r. inRange n r ≡ true) rs → getD (sizesOf (txFrames rs)) t 0 ≤ 8
-unfolding Each txFrames sizesOf inRange
+-- the Tx frames are in their ranges, so none has more than eight bytes
+pub ranges : (n : ℕ) (rs : List Record) → Each (λ r. inRange n r ≡ true) rs → Each (TxRanges n) (txFrames rs)
+unfolding Each txFrames inRange
+ranges n [] h = tt
+ranges n (r ∷ rs) h =
+    by-tx (λ r. inRange n r ≡ true → Each (TxRanges n) (txFrames (r ∷ rs))) (λ x e. (tx-ranges n x e, ranges n rs (h .1)))
+    (λ r no e. subst (Each (TxRanges n)) (sym (no .by _ _)) (ranges n rs (h .1))) r (h .0)
+
+tx-size : (n : ℕ) (xs : List TxFrame) (t : ℕ) → Each (TxRanges n) xs → getD (sizesOf xs) t 0 ≤ 8
+unfolding Each sizesOf
 tx-size n [] t h = omega arith
-tx-size n (Tx x ∷ rs) zero h = tx-ranges n x (h .0) .size
-tx-size n (Tx x ∷ rs) (suc t) h = tx-size n rs t (h .1)
-tx-size n (Head order ∷ rs) t h = tx-size n rs t (h .1)
-tx-size n (Node type ∷ rs) t h = tx-size n rs t (h .1)
-tx-size n (Rx x ∷ rs) t h = tx-size n rs t (h .1)
-tx-size n (Signal p s ∷ rs) t h = tx-size n rs t (h .1)
-tx-size n (Destination d q ∷ rs) t h = tx-size n rs t (h .1)
-tx-size n (BadKind ∷ rs) t h = tx-size n rs t (h .1)
-tx-size n (Cut kind ∷ rs) t h = tx-size n rs t (h .1)
-tx-size n (End ∷ rs) t h = tx-size n rs t (h .1)
+tx-size n (x ∷ xs) zero h = h .0 .size
+tx-size n (x ∷ xs) (suc t) h = tx-size n xs t (h .1)
 
 small : (plan : List ℕ) → GoodPlan plan → Each Small (claimsOf plan)
 unfolding txOf
@@ -40,7 +41,7 @@ small plan h =
     each-map
     (λ c f. record {
       frame = omega (arith, f .exists, sizes-length (txFrames (records plan)), h .counts .tx);
-      bits = omega (arith, f .inside, tx-size _ (records plan) (c .tx) (h .ranges));
+      bits = omega (arith, f .inside, tx-size _ (txFrames (records plan)) (c .tx) (ranges _ (records plan) (h .ranges)));
     })
     (claimsOf plan) (h .fits)
 
@@ -67,13 +68,11 @@ rows-number n [] d k l = absurd (omega arith)
 rows-number n (Rx x ∷ rs) d zero l = omega arith
 rows-number n (Rx x ∷ rs) d (suc k) l = rows-number (suc n) rs d k (omega arith) ∙ omega arith
 rows-number n (Head order ∷ rs) d k l = rows-number n rs d k l
-rows-number n (Node type ∷ rs) d k l = rows-number n rs d k l
+rows-number n (Node body ∷ rs) d k l = rows-number n rs d k l
 rows-number n (Tx x ∷ rs) d k l = rows-number n rs d k l
-rows-number n (Signal p s ∷ rs) d k l = rows-number n rs d k l
-rows-number n (Destination t q ∷ rs) d k l = rows-number n rs d k l
-rows-number n (BadKind ∷ rs) d k l = rows-number n rs d k l
-rows-number n (Cut kind ∷ rs) d k l = rows-number n rs d k l
-rows-number n (End ∷ rs) d k l = rows-number n rs d k l
+rows-number n (Signal body ∷ rs) d k l = rows-number n rs d k l
+rows-number n (Destination body ∷ rs) d k l = rows-number n rs d k l
+rows-number n (Broken fault ∷ rs) d k l = rows-number n rs d k l
 
 pub row-numbers : RowNumbers
 unfolding rowsOf

@@ -1,37 +1,19 @@
--- What a good plan says of its Tx frames, its rows and their claims, by number. Assumes nothing.
-use mathlib.Core.Path.{_≡_}
-use mathlib.Core.Bool.{true}
+-- What a good plan says of its Tx frames, its rows and their claims, by number.
 use mathlib.Core.List.{List, [], _∷_, _++_}
 use Prim.Native.Nat.{ℕ, zero, suc, _<_}
 use native.Mathlib.Omega.{arith}
 use lib.ListN.{length, getD}
 use Rattle.records.specs.declared.record.TxFrame.{TxFrame}
-use Rattle.records.specs.declared.record.Record.{Record}
-use Rattle.records.specs.declared.record.Record.the-variants.{Head, Node, Tx, Rx, Signal, Destination, BadKind, Cut, End}
 use Rattle.records.specs.Records.{records}
-use Rattle.plan.specs.Tests.{inRange}
 use Rattle.plan.specs.Rows.{Claim, Row, allClaims, claimsOf, rowsOf, txFrames, txOf, nodesIn}
-use Rattle.plan.proofs.TestLaws.{TxRanges, tx-ranges}
+use Rattle.plan.proofs.TestLaws.{TxRanges}
 use Rattle.facts.specs.Good.{Each, GoodPlan}
 use Rattle.facts.specs.Statements.{Small}
 use Rattle.facts.proofs.Lists.{each-at}
 use Rattle.facts.proofs.FactsGood.{facts-good}
-use Rattle.facts.proofs.Bounds.{good-bounds}
+use Rattle.facts.proofs.Bounds.{ranges, good-bounds}
 
 -- ---- the Tx frames
-
-ranges : (n : ℕ) (rs : List Record) → Each (λ r. inRange n r ≡ true) rs → Each (TxRanges n) (txFrames rs)
-unfolding Each txFrames inRange
-ranges n [] h = tt
-ranges n (Tx x ∷ rs) h = (tx-ranges n x (h .0), ranges n rs (h .1))
-ranges n (Head order ∷ rs) h = ranges n rs (h .1)
-ranges n (Node type ∷ rs) h = ranges n rs (h .1)
-ranges n (Rx x ∷ rs) h = ranges n rs (h .1)
-ranges n (Signal p s ∷ rs) h = ranges n rs (h .1)
-ranges n (Destination d q ∷ rs) h = ranges n rs (h .1)
-ranges n (BadKind ∷ rs) h = ranges n rs (h .1)
-ranges n (Cut kind ∷ rs) h = ranges n rs (h .1)
-ranges n (End ∷ rs) h = ranges n rs (h .1)
 
 pub frame-ranges : (plan : List ℕ) → GoodPlan plan → (d : TxFrame) (t : ℕ) → t < length (txOf plan)
     → TxRanges (nodesIn (records plan)) (getD (txOf plan) t d)

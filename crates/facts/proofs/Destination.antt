@@ -1,4 +1,4 @@
--- A destination: its four tests say that its claim, and that of the failure bit where one is awaited, fit and keep off the owned bits. Assumes nothing.
+-- A destination: its four tests say that its claim, and that of the failure bit where one is awaited, fit and keep off the owned bits.
 use mathlib.Core.Path.{_≡_, refl}
 use mathlib.Core.Bool.{Bool, true, false, not, _&&_, _||_}
 use mathlib.Core.List.{List, _∷_}
@@ -67,7 +67,8 @@ pub twice :
 unfolding widthOf pick
 twice sets n t q x s position there = rw (getD-set-same sets t (owned (getD sets t 0) q s) 0 there, set-set)
 
-module _ (all sizes sets : List ℕ) (count : ℕ) (known : SameSizes all sizes count) (long : length all ≤ length sets) (n t q x s position : ℕ) (cs : List Claim) where
+module _ (all sizes sets : List ℕ) (count : ℕ) (known : SameSizes all sizes count) (long : length all ≤ length sets)
+    (n t q x s position : ℕ) (cs : List Claim) where
   pub destination-back :
       (idle : Bool) → Tested sizes sets count t q s position idle → Claimed all (setsBy sets t q s position idle) cs
       → Claimed all sets (withFailure n (pick idle none (some position)) t (claimOf n t q x s ∷ cs))

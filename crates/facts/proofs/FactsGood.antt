@@ -1,4 +1,4 @@
--- A plan that has all the facts is good: at each record the facts of the records from there on give every test. Assumes nothing.
+-- A plan that has all the facts is good: at each record the facts of the records from there on give every test.
 use mathlib.Core.Path.{_≡_, sym, _∙_}
 use mathlib.Core.Bool.{true}
 use mathlib.Core.List.{List, [], _∷_}
@@ -6,12 +6,14 @@ use Prim.Native.Nat.{ℕ, _+_, _≤_, _<_}
 use native.Mathlib.Omega.{arith}
 use lib.ListN.{length}
 use Rattle.records.specs.declared.record.Record.{Record}
-use Rattle.records.specs.Records.{kindOf, records}
+use Rattle.records.specs.Kinds.{stageOf}
+use Rattle.records.specs.Records.{records}
 use Rattle.plan.specs.declared.progress.Progress.{Progress}
 use Rattle.plan.specs.Progress.{counted, after, start}
 use Rattle.plan.specs.Tests.{inRange}
 use Rattle.plan.specs.Check.{sizesAfter, setsAfter, checkPlan}
 use Rattle.plan.specs.Rows.{rowsFrom, rowsOf, claimsOf, txFrames, txOf, nodesIn}
+use Rattle.plan.proofs.Turn.{sets-length}
 use Rattle.facts.specs.Good.{Each, Along, InPlace, Few, SignalsFit, sizesOf, Followed, GoodPlan}
 use Rattle.facts.specs.Statements.{FactsGood, RefusedLacks}
 use Rattle.facts.proofs.Lists.{each-all}
@@ -26,13 +28,13 @@ use Rattle.facts.proofs.Rising.{RisingOver, rising-next}
 use Rattle.facts.proofs.Signals.{signals-next}
 use Rattle.facts.proofs.Sizes.{sizes-length}
 use Rattle.facts.proofs.Destination.{Claimed}
-use Rattle.facts.proofs.Claims.{left, Final, sets-length, claims-next}
+use Rattle.facts.proofs.Claims.{left, Final, claims-next}
 use Rattle.facts.proofs.Followers.{Await, idle, is-followed, awaits-next}
 use Rattle.facts.proofs.Whole.{zeros, zeros-length, nobody, whole-claims, whole-sizes}
 
 -- the facts of the records from a progress on; `all` are the sizes of the plan's Tx frames
 record Rest (all : List ℕ) (p : Progress) (sizes sets : List ℕ) (rs : List Record) : Type 0 where
-  place : InPlace (p .last) rs
+  place : InPlace (p .stage) rs
   bounded : Bounded (finally (p .counts) rs)
   few : FewMore (p .row) rs
   fews : Along Few rs
@@ -55,12 +57,12 @@ unfolding InPlace Along Each finally sizesFinally after
 rest-step all p sizes sets r rs h =
     let placed = h .place .0 in
     let place = h .place .1 in
-    let counted-then = bounded-before rs (kindOf r) (counted (p .counts) r) place (h .bounded) in
+    let counted-then = bounded-before rs (stageOf r) (counted (p .counts) r) place (h .bounded) in
     let rises-then = rising-next (p .number) (p .counts) (p .row) r rs (h .rising) in
     let claims-then = claims-next all sets sizes (h .long) (p .number) (h .number) (h .position) (p .counts) (p .row) r rs (h .final) place
     (placed .known) (placed .whole) (h .signals) (h .claims) in (
       record {
-        follows = is-followed (p .row) (kindOf r) (h .awaits .next .first);
+        follows = is-followed (p .row) (stageOf r) (h .awaits .next .first);
         known = placed .known;
         whole = placed .whole;
         stands = placed .stands;
@@ -75,7 +77,7 @@ rest-step all p sizes sets r rs h =
       record {
         place = place;
         bounded = h .bounded;
-        few = few-next (p .number) (p .row) r rs (placed .whole) place (h .few) (h .fews .0);
+        few = few-next (p .number) (p .row) r rs (placed .known) (placed .whole) place (h .few) (h .fews .0);
         fews = h .fews .1;
         ranges = h .ranges .1;
         rising = rises-then .1;
@@ -85,14 +87,14 @@ rest-step all p sizes sets r rs h =
         number = claims-then .1 .0;
         position = claims-then .1 .1;
         claims = claims-then .1 .2;
-        awaits = awaits-next (p .number) (p .row) r rs (placed .whole) (h .followers .0) (h .awaits);
+        awaits = awaits-next (p .number) (p .row) r rs (placed .known) (placed .whole) (h .followers .0) (h .awaits);
         followers = h .followers .1;
       },
     )
 
 rest-passes :
     (all : List ℕ) (rs : List Record) (p : Progress) (sizes sets : List ℕ) → Rest all p sizes sets rs → 0 < p .number + length rs → Passes p sizes sets rs
-unfolding Passes kindOf after
+unfolding Passes stageOf after
 rest-passes all [] p sizes sets h l = (is-followed (p .row) 0 (h .awaits .next .first), omega arith)
 rest-passes all (r ∷ rs) p sizes sets h l =
     let k = rest-step all p sizes sets r rs h in

@@ -1,4 +1,4 @@
--- The first bad record decides: the check goes past records that pass, and ends at one that does not. Assumes nothing.
+-- The first bad record decides: the check goes past records that pass, and ends at one that does not.
 use mathlib.Core.Path.{_≡_, refl, _∙_}
 use mathlib.Core.List.{List, [], _∷_, _++_}
 use Rattle.records.specs.declared.record.Record.{Record}

@@ -1,4 +1,4 @@
--- A plan that the check calls good has all the facts. Assumes nothing.
+-- A plan that the check calls good has all the facts.
 use mathlib.Core.Path.{_≡_}
 use mathlib.Core.List.{List, [], _∷_}
 use Prim.Native.Nat.{ℕ, _<_}

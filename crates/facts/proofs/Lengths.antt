@@ -1,6 +1,5 @@
--- How long a plan in place is, by the counts of its records. Assumes nothing.
+-- How long a plan in place is, by the counts of its records.
 use mathlib.Core.Path.{_≡_, refl}
-use mathlib.Core.Bool.{false≢true}
 use mathlib.Core.List.{List, [], _∷_}
 use Prim.Native.Nat.{ℕ, zero, suc, _+_, _-_, _*_, _≤_, _<_}
 use native.Mathlib.Omega.{arith}
@@ -10,9 +9,11 @@ use borrow.Author.Tests.{leb-true, leb-false, ne-eqb}
 use Rattle.base.specs.Pick.{pick}
 use Rattle.base.proofs.Picks.{cases, both}
 use Rattle.records.specs.declared.record.Record.{Record}
-use Rattle.records.specs.declared.record.Record.the-variants.{Head, Node, Tx, Rx, Signal, Destination, BadKind, Cut, End}
-use Rattle.records.specs.Records.{kindOf, sizeOf, fieldsAt, recordAt, recordsFrom, recordsAt, records}
-use Rattle.plan.specs.Tests.{isKind, isWhole}
+use Rattle.records.specs.declared.record.Record.the-variants.{Head, Node, Tx, Rx, Signal, Destination, Broken}
+use Rattle.records.specs.Kinds.{formOf, lengthOf, kindOf, stageOf}
+use Rattle.records.specs.Records.{sizeOf, recordAt, recordsFrom, recordsAt, records}
+use Rattle.records.proofs.RecordLaws.{record-some}
+use Rattle.plan.proofs.TestLaws.{no-fault}
 use Rattle.plan.specs.Rows.{txFrames, nodesIn}
 use Rattle.facts.specs.Good.{InPlace, countOf}
 use Rattle.facts.proofs.Places.{later}
@@ -22,26 +23,6 @@ use Rattle.facts.proofs.Places.{later}
 total : List Record → ℕ
 total [] = 0
 total (r ∷ rs) = sizeOf r + total rs
-
-abbrev Some : Record → Type 0
-Some r = 0 < sizeOf r
-
-fields-some : (kind : ℕ) (plan : List ℕ) (at : ℕ) → Some (fieldsAt kind plan at)
-unfolding fieldsAt sizeOf
-fields-some kind plan at =
-    both Some _ _ _ (omega arith)
-    (both Some _ _ _ (omega arith)
-    (both Some _ _ _ (omega arith)
-    (both Some _ _ _ (omega arith)
-    (both Some _ _ _ (omega arith)
-    (both Some _ _ _ (omega arith)
-    (omega arith))))))
-
-record-some : (plan : List ℕ) (at : ℕ) → at < length plan → Some (recordAt plan at)
-unfolding recordAt sizeOf
-record-some plan at l =
-    cases Some (leb (length plan) at) _ _ (λ e. absurd (omega (arith, leb-true (length plan) at e)))
-    (λ e. both Some _ _ _ (omega arith) (both Some _ _ _ (omega arith) (fields-some _ plan at)))
 
 reach : (bound : ℕ) (plan : List ℕ) (at : ℕ) → length plan ≤ at + bound → length plan ≤ at + total (recordsFrom bound plan at)
 unfolding recordsFrom total
@@ -55,34 +36,33 @@ reach (suc bound) plan at h =
 
 -- ---- what they come to
 
-no-head : (rs : List Record) (last : ℕ) → InPlace last rs → 1 ≤ last → countOf 1 rs ≡ 0
+no-head : (rs : List Record) (stage : ℕ) → InPlace stage rs → 1 ≤ stage → countOf 1 rs ≡ 0
 unfolding InPlace countOf pick
-no-head [] last h l = refl
-no-head (r ∷ rs) last h l =
-    let k = later last r (h .0) .body l in
-    rw (ne-eqb (kindOf r) 1 (omega arith)) (omega (arith, no-head rs (kindOf r) (h .1) (omega arith)))
+no-head [] stage h l = refl
+no-head (r ∷ rs) stage h l =
+    let k = later stage r (h .0) .body l in
+    rw (ne-eqb (stageOf r) 1 (omega arith)) (omega (arith, no-head rs (stageOf r) (h .1) (omega arith)))
 
 one-head : (rs : List Record) → InPlace 0 rs → countOf 1 rs ≤ 1
 unfolding InPlace countOf
 one-head [] h = omega arith
 one-head (r ∷ rs) h =
     let k = later 0 r (h .0) .kind in
-    both (λ (n : ℕ). n + countOf 1 rs ≤ 1) (eqb (kindOf r) 1) 1 0 (omega (arith, no-head rs (kindOf r) (h .1) k)) (omega (arith, no-head rs (kindOf r) (h .1) k))
+    both (λ (n : ℕ). n + countOf 1 rs ≤ 1) (eqb (stageOf r) 1) 1 0 (omega (arith, no-head rs (stageOf r) (h .1) k))
+    (omega (arith, no-head rs (stageOf r) (h .1) k))
 
 total-is :
-    (rs : List Record) (last : ℕ) → InPlace last rs
+    (rs : List Record) (stage : ℕ) → InPlace stage rs
     → total rs ≡ 2 * countOf 1 rs + 2 * nodesIn rs + 17 * length (txFrames rs) + 11 * countOf 4 rs + 3 * countOf 5 rs + 4 * countOf 6 rs
-unfolding total sizeOf InPlace countOf nodesIn txFrames kindOf isKind isWhole pick
-total-is [] last h = refl
-total-is (Head order ∷ rs) last h = omega (arith, total-is rs _ (h .1))
-total-is (Node type ∷ rs) last h = omega (arith, total-is rs _ (h .1))
-total-is (Tx x ∷ rs) last h = omega (arith, total-is rs _ (h .1))
-total-is (Rx x ∷ rs) last h = omega (arith, total-is rs _ (h .1))
-total-is (Signal p s ∷ rs) last h = omega (arith, total-is rs _ (h .1))
-total-is (Destination t q ∷ rs) last h = omega (arith, total-is rs _ (h .1))
-total-is (BadKind ∷ rs) last h = absurd (false≢true (h .0 .known))
-total-is (Cut kind ∷ rs) last h = absurd (false≢true (h .0 .whole))
-total-is (End ∷ rs) last h = absurd (false≢true (h .0 .known))
+unfolding total formOf lengthOf sizeOf InPlace countOf nodesIn txFrames kindOf stageOf pick
+total-is [] stage h = refl
+total-is (Head order ∷ rs) stage h = omega (arith, total-is rs _ (h .1))
+total-is (Node body ∷ rs) stage h = omega (arith, total-is rs _ (h .1))
+total-is (Tx x ∷ rs) stage h = omega (arith, total-is rs _ (h .1))
+total-is (Rx x ∷ rs) stage h = omega (arith, total-is rs _ (h .1))
+total-is (Signal body ∷ rs) stage h = omega (arith, total-is rs _ (h .1))
+total-is (Destination body ∷ rs) stage h = omega (arith, total-is rs _ (h .1))
+total-is (Broken fault ∷ rs) stage h = absurd (no-fault fault (h .0 .known) (h .0 .whole))
 
 pub plan-length :
     (plan : List ℕ) → InPlace 0 (records plan)

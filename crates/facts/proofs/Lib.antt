@@ -20,4 +20,4 @@ pub mod Bounds
 pub mod ByNumber
 pub mod OneOwner
 pub mod First
-pub mod Cases
+pub mod PlanCases

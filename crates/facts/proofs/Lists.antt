@@ -1,4 +1,4 @@
--- Laws of what holds of each element. Assumes nothing.
+-- Laws of what holds of each element.
 use mathlib.Core.List.{List, [], _∷_}
 use Prim.Native.Nat.{ℕ, zero, suc, _<_}
 use native.Mathlib.Omega.{arith}

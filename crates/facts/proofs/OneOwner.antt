@@ -1,4 +1,4 @@
--- No bit has two owners, by the places of the claims. Assumes nothing.
+-- No bit has two owners, by the places of the claims.
 use mathlib.Core.Path.{_≡_, refl, ap}
 use mathlib.Core.List.{List, [], _∷_}
 use Prim.Native.Nat.{ℕ, zero, suc, _<_}

@@ -1,5 +1,5 @@
 -- The owner sets and the claims: a claim that clashes with no set joins it, and then the later claims must keep off its bits. So no bit is claimed
--- twice exactly where no claim clashes. Assumes nothing.
+-- twice exactly where no claim clashes.
 use mathlib.Core.Path.{_≡_, refl, sym, ap, _∙_}
 use mathlib.Core.Logic.{_⊎_, inl, inr, ⊎-elim}
 use mathlib.Core.Bool.{Bool, true, false}

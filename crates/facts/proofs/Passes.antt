@@ -1,4 +1,4 @@
--- The check is good exactly where every record passes every test at the progress of the records before it, and the end passes. Assumes nothing.
+-- The check is good exactly where every record passes every test at the progress of the records before it, and the end passes.
 use mathlib.Core.Path.{_≡_, refl}
 use mathlib.Core.Bool.{Bool, true, false}
 use mathlib.Core.List.{List, [], _∷_}

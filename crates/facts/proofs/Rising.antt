@@ -1,4 +1,4 @@
--- The rows' keys rise where each is above the floor that the one before leaves. Assumes nothing.
+-- The rows' keys rise where each is above the floor that the one before leaves.
 use mathlib.Core.Path.{_≡_, refl}
 use mathlib.Core.Bool.{true}
 use mathlib.Core.List.{List, [], _∷_}
@@ -7,9 +7,9 @@ use native.Mathlib.Numerals.{add-one}
 use native.Mathlib.Omega.{arith}
 use borrow.Author.Tests.{leb-true, le-leb}
 use Rattle.records.specs.declared.record.Record.{Record}
-use Rattle.records.specs.declared.record.Record.the-variants.{Head, Node, Tx, Rx, Signal, Destination, BadKind, Cut, End}
+use Rattle.records.specs.declared.record.Record.the-variants.{Head, Node, Tx, Rx, Signal, Destination, Broken}
 use Rattle.plan.specs.declared.progress.Counts.{Counts}
-use Rattle.plan.specs.declared.progress.Row.{Row as State}
+use Rattle.plan.specs.declared.progress.RowSoFar.{RowSoFar}
 use Rattle.plan.specs.declared.progress.Progress.{Progress}
 use Rattle.plan.specs.Progress.{keyOf, counted, rowAfter, after}
 use Rattle.plan.specs.Tests.{rises}
@@ -25,7 +25,7 @@ pub record RisingOver (floor : ℕ) (rows : List Row) : Type 0 where
 
 -- one record more in front
 rising-back :
-    (n : ℕ) (c : Counts) (row : State) (r : Record) (rs : List Record) → rises row r ≡ true
+    (n : ℕ) (c : Counts) (row : RowSoFar) (r : Record) (rs : List Record) → rises row r ≡ true
     → RisingOver (rowAfter n row r .floor) (rowsFrom (counted c r .rx) rs) → RisingOver (row .floor) (rowsFrom (c .rx) (r ∷ rs))
 unfolding rises rowAfter counted rowsFrom rowOf Each Rising
 rising-back n c row (Rx x) rs e h =
@@ -36,13 +36,11 @@ rising-back n c row (Rx x) rs e h =
       rising = (each-map (λ r a. omega arith) (rowsFrom (suc (c .rx)) rs) (k .above), k .rising);
     }
 rising-back n c row (Head order) rs e h = h
-rising-back n c row (Node type) rs e h = h
+rising-back n c row (Node body) rs e h = h
 rising-back n c row (Tx x) rs e h = h
-rising-back n c row (Signal p s) rs e h = h
-rising-back n c row (Destination t q) rs e h = h
-rising-back n c row BadKind rs e h = h
-rising-back n c row (Cut kind) rs e h = h
-rising-back n c row End rs e h = h
+rising-back n c row (Signal body) rs e h = h
+rising-back n c row (Destination body) rs e h = h
+rising-back n c row (Broken fault) rs e h = h
 
 pub passes-rising : (rs : List Record) (p : Progress) (sizes sets : List ℕ) → Passes p sizes sets rs → RisingOver (p .row .floor) (rowsFrom (p .counts .rx) rs)
 unfolding Passes rowsFrom Each Rising after
@@ -52,7 +50,7 @@ passes-rising (r ∷ rs) p sizes sets h =
 
 -- and one less
 pub rising-next :
-    (n : ℕ) (c : Counts) (row : State) (r : Record) (rs : List Record) → RisingOver (row .floor) (rowsFrom (c .rx) (r ∷ rs))
+    (n : ℕ) (c : Counts) (row : RowSoFar) (r : Record) (rs : List Record) → RisingOver (row .floor) (rowsFrom (c .rx) (r ∷ rs))
     → (rises row r ≡ true) × RisingOver (rowAfter n row r .floor) (rowsFrom (counted c r .rx) rs)
 unfolding rises rowAfter counted rowsFrom rowOf Each Rising
 rising-next n c row (Rx x) rs h =
@@ -60,10 +58,8 @@ rising-next n c row (Rx x) rs h =
     record { above = each-map (λ r a. omega arith) (rowsFrom (suc (c .rx)) rs) (h .rising .0); rising = h .rising .1 } in
     (le-leb (row .floor) (keyOf x) (h .above .0), rw (add-one (c .rx)) k)
 rising-next n c row (Head order) rs h = (refl, h)
-rising-next n c row (Node type) rs h = (refl, h)
+rising-next n c row (Node body) rs h = (refl, h)
 rising-next n c row (Tx x) rs h = (refl, h)
-rising-next n c row (Signal p s) rs h = (refl, h)
-rising-next n c row (Destination t q) rs h = (refl, h)
-rising-next n c row BadKind rs h = (refl, h)
-rising-next n c row (Cut kind) rs h = (refl, h)
-rising-next n c row End rs h = (refl, h)
+rising-next n c row (Signal body) rs h = (refl, h)
+rising-next n c row (Destination body) rs h = (refl, h)
+rising-next n c row (Broken fault) rs h = (refl, h)

@@ -1,4 +1,4 @@
--- The Tx frames' sizes that the check has at the end are those of the plan's Tx frames. Assumes nothing.
+-- The Tx frames' sizes that the check has at the end are those of the plan's Tx frames.
 use mathlib.Core.Path.{_≡_, refl, ap, _∙_}
 use mathlib.Core.List.{List, [], _∷_}
 use Prim.Native.Nat.{ℕ, zero, suc, _+_, _≤_, _<_}
@@ -7,11 +7,12 @@ use lib.ListN.{length, getD, set, length-set}
 use lib.Seq.{getD-set-same, getD-set-other}
 use Rattle.records.specs.declared.record.TxFrame.{TxFrame}
 use Rattle.records.specs.declared.record.Record.{Record}
-use Rattle.records.specs.declared.record.Record.the-variants.{Head, Node, Tx, Rx, Signal, Destination, BadKind, Cut, End}
+use Rattle.records.specs.declared.record.Record.the-variants.{Head, Node, Tx, Rx, Signal, Destination, Broken}
 use Rattle.plan.specs.declared.progress.Counts.{Counts}
 use Rattle.plan.specs.Progress.{counted}
 use Rattle.plan.specs.Check.{sizesAfter}
 use Rattle.plan.specs.Rows.{txFrames}
+use Rattle.records.proofs.Variants.{by-tx}
 use Rattle.facts.specs.Good.{sizesOf}
 use Rattle.facts.proofs.Passes.{sizesFinally}
 
@@ -23,15 +24,10 @@ sizes-length (x ∷ xs) = ap suc (sizes-length xs)
 -- a size that is known stays
 low-after : (c : Counts) (sizes : List ℕ) (r : Record) (t : ℕ) → t < c .tx → (getD (sizesAfter (c .tx) sizes r) t 0 ≡ getD sizes t 0) × (t < counted c r .tx)
 unfolding sizesAfter counted
-low-after c sizes (Tx x) t l = (getD-set-other sizes (c .tx) t (x .size) 0 (omega arith), omega arith)
-low-after c sizes (Head order) t l = (refl, l)
-low-after c sizes (Node type) t l = (refl, l)
-low-after c sizes (Rx x) t l = (refl, l)
-low-after c sizes (Signal p s) t l = (refl, l)
-low-after c sizes (Destination d q) t l = (refl, l)
-low-after c sizes BadKind t l = (refl, l)
-low-after c sizes (Cut kind) t l = (refl, l)
-low-after c sizes End t l = (refl, l)
+low-after c sizes =
+    by-tx (λ r. (t : ℕ) → t < c .tx → (getD (sizesAfter (c .tx) sizes r) t 0 ≡ getD sizes t 0) × (t < counted c r .tx))
+    (λ x t l. (getD-set-other sizes (c .tx) t (x .size) 0 (omega arith), omega arith))
+    (λ r no t l. (ap (λ (xs : List ℕ). getD xs t 0) (no .by _ _), rw (no .by (c .tx) (λ x. c .tx + 1)) l))
 
 pub sizes-low : (rs : List Record) (c : Counts) (sizes : List ℕ) (t : ℕ) → t < c .tx → getD (sizesFinally c sizes rs) t 0 ≡ getD sizes t 0
 unfolding sizesFinally
@@ -51,10 +47,8 @@ sizes-high (Tx x ∷ rs) c sizes (suc k) room l =
     let e : c .tx + suc k ≡ c .tx + 1 + k = omega arith in
     rw e (sizes-high rs (counted c (Tx x)) (set sizes (c .tx) (x .size)) k (simp length-set (omega arith)) (omega arith))
 sizes-high (Head order ∷ rs) c sizes k room l = sizes-high rs c sizes k room l
-sizes-high (Node type ∷ rs) c sizes k room l = sizes-high rs (counted c (Node type)) sizes k room l
+sizes-high (Node body ∷ rs) c sizes k room l = sizes-high rs (counted c (Node body)) sizes k room l
 sizes-high (Rx x ∷ rs) c sizes k room l = sizes-high rs (counted c (Rx x)) sizes k room l
-sizes-high (Signal p s ∷ rs) c sizes k room l = sizes-high rs (counted c (Signal p s)) sizes k room l
-sizes-high (Destination t q ∷ rs) c sizes k room l = sizes-high rs (counted c (Destination t q)) sizes k room l
-sizes-high (BadKind ∷ rs) c sizes k room l = sizes-high rs c sizes k room l
-sizes-high (Cut kind ∷ rs) c sizes k room l = sizes-high rs c sizes k room l
-sizes-high (End ∷ rs) c sizes k room l = sizes-high rs c sizes k room l
+sizes-high (Signal body ∷ rs) c sizes k room l = sizes-high rs (counted c (Signal body)) sizes k room l
+sizes-high (Destination body ∷ rs) c sizes k room l = sizes-high rs (counted c (Destination body)) sizes k room l
+sizes-high (Broken fault ∷ rs) c sizes k room l = sizes-high rs c sizes k room l

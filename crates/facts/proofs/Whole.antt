@@ -1,4 +1,4 @@
--- The whole plan, from the start of the check: what its records make of the counts, the sizes and the claims. Assumes nothing.
+-- The whole plan, from the start of the check: what its records make of the counts, the sizes and the claims.
 use mathlib.Core.Path.{_≡_, refl}
 use mathlib.Core.List.{List}
 use Prim.Native.Nat.{ℕ, zero, suc, _+_, _^_, _/_, _%_}
@@ -7,6 +7,7 @@ use native.Mathlib.Omega.{arith}
 use lib.ListN.{length, getD, replicate, length-replicate}
 use Rattle.bits.specs.Digit.{digit}
 use Rattle.records.specs.declared.record.Record.{Record}
+use Rattle.plan.specs.Limits.{mostTx}
 use Rattle.plan.specs.Progress.{start}
 use Rattle.plan.specs.Rows.{rowsFrom, allClaims, txFrames}
 use Rattle.facts.specs.Good.{InPlace, sizesOf}
@@ -18,10 +19,10 @@ use Rattle.facts.proofs.Owners.{Has}
 use Rattle.facts.proofs.Claims.{left, no-left, Final}
 
 abbrev pub zeros : List ℕ
-zeros = replicate 256 0
+zeros = replicate mostTx 0
 
-pub zeros-length : length zeros ≡ 256
-zeros-length = length-replicate {A = ℕ} 256 0
+pub zeros-length : length zeros ≡ mostTx
+zeros-length = length-replicate {A = ℕ} mostTx 0
 
 zeros-at : (n t : ℕ) → getD {A = ℕ} (replicate n 0) t 0 ≡ 0
 zeros-at zero t = refl
@@ -32,7 +33,7 @@ zeros-at (suc n) (suc t) = zeros-at n t
 pub nobody : (t b : ℕ) → Has zeros t b → ⊥
 unfolding digit
 nobody t b h =
-    let z : 0 / 2 ^ b % 2 ≡ 1 = rw (zeros-at 256 t) at h in
+    let z : 0 / 2 ^ b % 2 ≡ 1 = rw (zeros-at mostTx t) at h in
     omega (arith, rw (zero-div (2 ^ b)) at z)
 
 module _ (rs : List Record) (place : InPlace 0 rs) where

@@ -9,8 +9,10 @@ use Rattle.base.specs.Pick.{pick}
 use Rattle.records.specs.declared.record.TxFrame.{TxFrame}
 use Rattle.records.specs.declared.record.RxFrame.{RxFrame}
 use Rattle.records.specs.declared.record.Record.{Record}
-use Rattle.records.specs.declared.record.Record.the-variants.{Head, Node, Tx, Rx, Signal, Destination, BadKind, Cut, End}
-use Rattle.records.specs.Records.{kindOf, records}
+use Rattle.records.specs.declared.record.Record.the-variants.{Rx}
+use Rattle.records.specs.Views.{inRow, noRecord}
+use Rattle.records.specs.Kinds.{rxStage, signalStage, destinationStage, stageOf}
+use Rattle.records.specs.Records.{records}
 use Rattle.plan.specs.Progress.{keyOf}
 use Rattle.plan.specs.Tests.{isKind, isWhole, mayStand, inRange}
 use Rattle.plan.specs.Rows.{widthOf, Claim, Row, rowsOf, claimsOf, txOf, nodesIn}
@@ -27,42 +29,42 @@ Along P (r ∷ rs) = P r rs × Along P rs
 
 -- ---- "One head first, then nodes, then Tx frames, then Rx frames, each followed by its signals, each followed by its destinations."
 
--- a whole record of a known kind that may stand after one of kind `last`, which is 0 if there is none
-pub record Placed (last : ℕ) (r : Record) : Type 0 where
+-- a whole record of a known kind that may stand after one of a stage, which is 0 if there is none
+pub record Placed (stage : ℕ) (r : Record) : Type 0 where
   pub known : isKind r ≡ true
   pub whole : isWhole r ≡ true
-  pub stands : mayStand last r ≡ true
+  pub stands : mayStand stage r ≡ true
 
 unfoldable pub InPlace : ℕ → List Record → Type 0
-InPlace last [] = Unit {0}
-InPlace last (r ∷ rs) = Placed last r × InPlace (kindOf r) rs
+InPlace stage [] = Unit {0}
+InPlace stage (r ∷ rs) = Placed stage r × InPlace (stageOf r) rs
 
 -- ---- "At most 16 nodes, 256 Tx frames, 256 Rx frames, 1,024 signals (64 in a frame), 2,048 destinations (15 for a signal)."
 
--- how many records of a kind there are
+-- how many records of a stage there are
 unfoldable pub countOf : ℕ → List Record → ℕ
-countOf kind [] = 0
-countOf kind (r ∷ rs) = pick (eqb (kindOf r) kind) 1 0 + countOf kind rs
+countOf stage [] = 0
+countOf stage (r ∷ rs) = pick (eqb (stageOf r) stage) 1 0 + countOf stage rs
 
 -- how many signals an Rx frame has, and how many destinations a signal has, by the records after it
 unfoldable pub signalsOf : List Record → ℕ
 signalsOf [] = 0
-signalsOf (r ∷ rs) = pick (eqb (kindOf r) 5) (suc (signalsOf rs)) (pick (eqb (kindOf r) 6) (signalsOf rs) 0)
+signalsOf (r ∷ rs) = pick (eqb (stageOf r) signalStage) (suc (signalsOf rs)) (pick (eqb (stageOf r) destinationStage) (signalsOf rs) 0)
 
 unfoldable pub destinationsOf : List Record → ℕ
 destinationsOf [] = 0
-destinationsOf (r ∷ rs) = pick (eqb (kindOf r) 6) (suc (destinationsOf rs)) 0
+destinationsOf (r ∷ rs) = pick (eqb (stageOf r) destinationStage) (suc (destinationsOf rs)) 0
 
 pub record Few (r : Record) (rs : List Record) : Type 0 where
-  pub signals : kindOf r ≡ 4 → signalsOf rs ≤ 64
-  pub destinations : kindOf r ≡ 5 → destinationsOf rs ≤ 15
+  pub signals : stageOf r ≡ rxStage → signalsOf rs ≤ 64
+  pub destinations : stageOf r ≡ signalStage → destinationsOf rs ≤ 15
 
 pub record Counted (plan : List ℕ) : Type 0 where
   pub nodes : nodesIn (records plan) ≤ 16
   pub tx : length (txOf plan) ≤ 256
   pub rx : length (rowsOf plan) ≤ 256
-  pub signals : countOf 5 (records plan) ≤ 1024
-  pub destinations : countOf 6 (records plan) ≤ 2048
+  pub signals : countOf signalStage (records plan) ≤ 1024
+  pub destinations : countOf destinationStage (records plan) ≤ 2048
   pub few : Along Few (records plan)
 
 -- ---- "Ranges: order 0–1; type 0; node below the node count; .." The node count is the plan's.
@@ -80,15 +82,9 @@ Rising (r ∷ rs) = Each (λ s. keyOf (r .frame) < keyOf (s .frame)) rs × Risin
 
 unfoldable pub SignalsFit : ℕ → List Record → Type 0
 SignalsFit room [] = Unit {0}
-SignalsFit room (Rx x ∷ rs) = SignalsFit (8 * x .size) rs
-SignalsFit room (Signal p s ∷ rs) = (p + s ≤ room) × SignalsFit room rs
-SignalsFit room (Head order ∷ rs) = SignalsFit room rs
-SignalsFit room (Node type ∷ rs) = SignalsFit room rs
-SignalsFit room (Tx frame ∷ rs) = SignalsFit room rs
-SignalsFit room (Destination t q ∷ rs) = SignalsFit room rs
-SignalsFit room (BadKind ∷ rs) = SignalsFit room rs
-SignalsFit room (Cut kind ∷ rs) = SignalsFit room rs
-SignalsFit room (End ∷ rs) = SignalsFit room rs
+SignalsFit room (r ∷ rs) =
+    inRow (SignalsFit room rs) (λ frame. SignalsFit (8 * frame .size) rs) (λ body. (body .position + body .size ≤ room) × SignalsFit room rs)
+    (λ body. SignalsFit room rs) r
 
 -- ---- 7: "a .. destination passes its frame's data, or the Tx frame does not exist", and 9: "or its position passes the Tx data": here none does,
 -- of the claims of the destinations and of the failure bits. The sizes are those of the Tx frames.
@@ -120,12 +116,12 @@ Once (c ∷ cs) = ((t b : ℕ) → Holds c t b → Free cs t b) × Once cs
 
 -- ---- 9: "an enabled indicator's Rx frame is not followed at once by a signal and a destination (judged by kind byte)": here each is
 
--- the kind of the record at a place, 0 past the end
-abbrev pub kindAt : ℕ → List Record → ℕ
-kindAt k rs = kindOf (getD rs k End)
+-- the stage of the record at a place, 0 past the end
+abbrev pub stageAt : ℕ → List Record → ℕ
+stageAt k rs = stageOf (getD rs k noRecord)
 
 abbrev pub Followed : Record → List Record → Type 0
-Followed r rs = (x : RxFrame) → r ≡ Rx x → x .enable ≡ 1 → (kindAt 0 rs ≡ 5) × (kindAt 1 rs ≡ 6)
+Followed r rs = (x : RxFrame) → r ≡ Rx x → x .enable ≡ 1 → (stageAt 0 rs ≡ signalStage) × (stageAt 1 rs ≡ destinationStage)
 
 -- ---- a good plan
 

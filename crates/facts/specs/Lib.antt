@@ -1,3 +1,3 @@
 pub mod Good
-pub mod Cases
+pub mod PlanCases
 pub mod Statements

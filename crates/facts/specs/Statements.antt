@@ -14,7 +14,7 @@ use Rattle.plan.specs.Progress.{after, start}
 use Rattle.plan.specs.Check.{judged, sizesAfter, setsAfter, checkPlan}
 use Rattle.plan.specs.Rows.{widthOf, Claim, Row, rowsOf, claimsOf, txOf, nodesIn}
 use Rattle.facts.specs.Good.{Each, Holds, GoodPlan}
-use Rattle.facts.specs.Cases.{cases, Hold}
+use Rattle.facts.specs.PlanCases.{planCases, VerdictsHold}
 
 -- the counts that a good verdict gives are those of the plan's nodes, Tx frames and rows
 pub record Answered (plan : List ℕ) (n t r : ℕ) : Type 0 where
@@ -105,5 +105,5 @@ RowNumbers = (plan : List ℕ) (d : Row) (k : ℕ) → k < length (rowsOf plan) 
 
 -- ---- the small plans of every refusal, document 01's cases 10, 11 and 12, and its listing
 
-abbrev pub CasesHold : Type 0
-CasesHold = Hold cases
+abbrev pub PlanCasesHold : Type 0
+PlanCasesHold = VerdictsHold planCases

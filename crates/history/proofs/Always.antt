@@ -1,9 +1,9 @@
 -- What holds of an area just opened, and is kept by every later call, holds after any calls on any area, of the plan last opened with success
--- and what has happened since. Assumes nothing.
+-- and what has happened since.
 use mathlib.Core.Path.{_≡_, refl}
 use mathlib.Core.List.{List, [], _∷_, _++_, append-nil}
 use mathlib.Core.Option.{Option, none, some}
-use Prim.Native.Nat.{ℕ, _≤_}
+use Prim.Native.Nat.{ℕ}
 use lib.Dec.{leb}
 use lib.ListN.{length}
 use borrow.Author.Tests.{leb-true}
@@ -13,8 +13,9 @@ use Rattle.plan.specs.declared.verdict.Verdict.the-variants as verdict
 use Rattle.plan.specs.Check.{checkPlan}
 use Rattle.facts.specs.Good.{GoodPlan}
 use Rattle.facts.proofs.GoodFacts.{good-facts}
+use Rattle.area.specs.Layout.{areaLength, LongEnough}
 use Rattle.answers.specs.declared.Opened.{Opened}
-use Rattle.area.specs.Claims.{Event}
+use Rattle.area.specs.Claims.{RxEvent}
 use Rattle.opening.specs.Opened.{opened, openedAnswer, openedArea}
 use Rattle.tables.specs.Reads.{Reads, Begun}
 use Rattle.tables.proofs.Opened.{opened-reads}
@@ -24,26 +25,26 @@ use Rattle.history.specs.Past.{Past, unopened, openedPast, told, pastAft
 use Rattle.history.proofs.Later.{Later, reads-after}
 
 -- Q of the plan, of what has happened since it was opened, and of the area, which holds it
-pub record Held (Q : List ℕ → List Event → List ℕ → Type 0) (plan : List ℕ) (log : List Event) (a : List ℕ) : Type 0 where
+pub record Held (Q : List ℕ → List RxEvent → List ℕ → Type 0) (plan : List ℕ) (log : List RxEvent) (a : List ℕ) : Type 0 where
   pub good : GoodPlan plan
   pub reads : Reads plan a
   pub holds : Q plan log a
 
 -- where a plan has been opened
-abbrev HeldIf : (List ℕ → List Event → List ℕ → Type 0) → Option (List ℕ) → List Event → List ℕ → Type 0
+abbrev HeldIf : (List ℕ → List RxEvent → List ℕ → Type 0) → Option (List ℕ) → List RxEvent → List ℕ → Type 0
 HeldIf Q none log a = Unit {0}
 HeldIf Q (some plan) log a = Held Q plan log a
 
-module _ (Q : List ℕ → List Event → List ℕ → Type 0)
+module _ (Q : List ℕ → List RxEvent → List ℕ → Type 0)
     (begins : (plan a : List ℕ) → GoodPlan plan → Reads plan a → Begun plan a → Q plan [] a)
-    (goes-on : (plan : List ℕ) → GoodPlan plan → (log : List Event) (c : Step) → Later c → (a : List ℕ) → Reads plan a → Q plan log a
+    (goes-on : (plan : List ℕ) → GoodPlan plan → (log : List RxEvent) (c : Step) → Later c → (a : List ℕ) → Reads plan a → Q plan log a
     → Q plan (log ++ told (some plan) c a) (stepped a c)) where
   abbrev Then : Past → List ℕ → Type 0
   Then past a = HeldIf Q (past .plan) (past .log) a
 
   -- ---- an opening
 
-  begun : (plan a : List ℕ) (n t r : ℕ) → checkPlan plan ≡ verdict.Good n t r → 32768 ≤ length a → Held Q plan [] (opened plan a)
+  begun : (plan a : List ℕ) (n t r : ℕ) → checkPlan plan ≡ verdict.Good n t r → LongEnough a → Held Q plan [] (opened plan a)
   begun plan a n t r e long =
       let good = good-facts plan n t r e .0 in
       let x = opened-reads plan a n t r e long in
@@ -55,14 +56,14 @@ module _ (Q : List ℕ → List Event → List ℕ → Type 0)
       → Then (openedPast (openedAnswer v (length a)) plan past) (openedArea (openedAnswer v (length a)) plan a)
   unfolding openedAnswer openedArea openedPast
   after-opening past plan a h (verdict.Good n t r) e =
-      cases (λ (x : Opened). Then (openedPast x plan past) (openedArea x plan a)) (leb 32768 (length a)) _ _
+      cases (λ (x : Opened). Then (openedPast x plan past) (openedArea x plan a)) (leb areaLength (length a)) _ _
       (λ long. begun plan a n t r e (leb-true _ _ long))
       (λ short. h)
   after-opening past plan a h (verdict.Refused reason number) e = h
 
   -- ---- a later call
 
-  more : (x : Option (List ℕ)) (log : List Event) (c : Step) → Later c → (a : List ℕ) → HeldIf Q x log a → HeldIf Q x (log ++ told x c a) (stepped a c)
+  more : (x : Option (List ℕ)) (log : List RxEvent) (c : Step) → Later c → (a : List ℕ) → HeldIf Q x log a → HeldIf Q x (log ++ told x c a) (stepped a c)
   more none log c later a h = tt
   more (some plan) log c later a h =
       record {
@@ -73,7 +74,7 @@ module _ (Q : List ℕ → List Event → List ℕ → Type 0)
 
   -- one that tells nothing
   quiet :
-      (x : Option (List ℕ)) (log : List Event) (c : Step) → Later c → (a : List ℕ) → ((plan : List ℕ) → told (some plan) c a ≡ []) → HeldIf Q x log a
+      (x : Option (List ℕ)) (log : List RxEvent) (c : Step) → Later c → (a : List ℕ) → ((plan : List ℕ) → told (some plan) c a ≡ []) → HeldIf Q x log a
       → HeldIf Q x log (stepped a c)
   quiet none log c later a silent h = tt
   quiet (some plan) log c later a silent h =

@@ -1,4 +1,4 @@
--- What queues and timers leave, over any set of places P that names none of theirs, nor a payload where claims are acted on. Assumes nothing.
+-- What queues and timers leave, over any set of places P that names none of theirs, nor a payload where claims are acted on.
 use mathlib.Core.Path.{_≡_}
 use mathlib.Core.Bool.{Bool}
 use mathlib.Core.List.{List, [], _∷_}
@@ -11,9 +11,9 @@ use Rattle.base.proofs.Picks.{cases}
 use Rattle.plan.specs.Rows.{Claim}
 use Rattle.facts.specs.Good.{Each}
 use Rattle.facts.specs.Statements.{Small}
-use Rattle.area.specs.Layout.{txTimer, waits, nodeCount}
+use Rattle.area.specs.Layout.{txTimersStart, longStart, fullStart, payloadsStart, txMasksStart, txTimer, waits, nodeCount}
 use Rattle.area.specs.Queue.{scheduled, oldest, dequeued}
-use Rattle.area.specs.Claims.{Event, sentIf, allDone}
+use Rattle.area.specs.Claims.{RxEvent, sentIf, allDone}
 use Rattle.area.proofs.Frame.{Same, NoEnds, NoRing, Off, same-refl, same-then, same-set, same-pick}
 use Rattle.area.proofs.Frame.{same-scheduled, same-sentIf, same-dequeued, same-done}
 use Rattle.ticking.specs.Tick.{timed, txTick, txTicks, longLowered}
@@ -23,16 +23,16 @@ use Rattle.taking.specs.Taken.{oldestArea, takenArea}
 pub record Aside (P : ℕ → Type 0) : Type 0 where
   pub ends : (n : ℕ) → n < 16 → NoEnds P n
   pub ring : NoRing P
-  pub timers : (j : ℕ) → 208 ≤ j → j < 1232 → j % 2 ≡ 1 → P j → ⊥
-  pub low : (j : ℕ) → 1232 ≤ j → j < 2000 → P j → ⊥
+  pub timers : (j : ℕ) → txTimersStart ≤ j → j < longStart → j % 2 ≡ 1 → P j → ⊥
+  pub low : (j : ℕ) → longStart ≤ j → j < fullStart → P j → ⊥
 
 module _ {P : ℕ → Type 0} (f : Aside P) where
   -- ---- timers: at is the place of a reload value
 
-  pub aside-count : (a : List ℕ) (at v : ℕ) → 208 ≤ at → at < 1232 → at % 2 ≡ 0 → Same P a (set a (at + 1) v)
+  pub aside-count : (a : List ℕ) (at v : ℕ) → txTimersStart ≤ at → at < longStart → at % 2 ≡ 0 → Same P a (set a (at + 1) v)
   aside-count a at v l m e = same-set _ _ (f .timers _ (omega arith) (omega arith) (omega arith)) (same-refl a)
 
-  pub aside-timed : (a : List ℕ) (at : ℕ) → 208 ≤ at → at < 1232 → at % 2 ≡ 0 → Same P a (timed a at)
+  pub aside-timed : (a : List ℕ) (at : ℕ) → txTimersStart ≤ at → at < longStart → at % 2 ≡ 0 → Same P a (timed a at)
   unfolding timed
   aside-timed a at l m e = aside-count a at _ l m e
 
@@ -82,7 +82,7 @@ module _ {P : ℕ → Type 0} (f : Aside P) where
 
   -- ---- claims, where P names no payload either
 
-  module _ (payloads : (j : ℕ) → 6384 ≤ j → j < 8432 → P j → ⊥) where
+  module _ (payloads : (j : ℕ) → payloadsStart ≤ j → j < txMasksStart → P j → ⊥) where
     off : (c : Claim) → Small c → Off P c
     off c s =
         record {
@@ -91,7 +91,7 @@ module _ {P : ℕ → Type 0} (f : Aside P) where
           timer = timer _ (omega arith);
         }
 
-    pub aside-allDone : (o : ℕ) (e : Event) (cs : List Claim) (a : List ℕ) → Each Small cs → Same P a (allDone o e cs a)
+    pub aside-allDone : (o : ℕ) (e : RxEvent) (cs : List Claim) (a : List ℕ) → Each Small cs → Same P a (allDone o e cs a)
     unfolding allDone Each
     aside-allDone o e [] a s = same-refl a
     aside-allDone o e (c ∷ cs) a s = same-then (same-done (f .ends) (f .ring) o e a c (off c (s .0))) (aside-allDone o e cs _ (s .1))

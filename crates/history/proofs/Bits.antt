@@ -1,4 +1,4 @@
--- What an event does to one bit of a payload, claim by claim: among claims of which no two hold one bit, the bit's owner decides. Assumes nothing.
+-- What an event does to one bit of a payload, claim by claim: among claims of which no two hold one bit, the bit's owner decides.
 use mathlib.Core.Path.{_≡_, refl, sym, ap, _∙_}
 use mathlib.Core.Logic.{_≢_}
 use mathlib.Core.Bool.{Bool, true, false, true≢false, false≢true}
@@ -17,8 +17,8 @@ use Rattle.bits.proofs.CopyLaws.{copied-bit, copied-other}
 use Rattle.plan.specs.Rows.{Source, copy, failure, widthOf, Claim}
 use Rattle.facts.specs.Good.{Each, Holds, Free, Once}
 use Rattle.facts.specs.Statements.{Small}
-use Rattle.area.specs.Layout.{spot}
-use Rattle.area.specs.Claims.{Event, accepted, expired, doneBy, sentBy, done}
+use Rattle.area.specs.Layout.{payloadsStart, txMasksStart, LongEnough, spot}
+use Rattle.area.specs.Claims.{RxEvent, accepted, expired, doneBy, sentBy, done}
 use Rattle.area.proofs.Frame.{Same, same-bit, same-done}
 use Rattle.history.specs.Fresh.{Owner, nobody, signal, indicator, holds, ownerFrom, ownerIn}
 use Rattle.history.specs.Statements.{OwnedBy}
@@ -52,7 +52,7 @@ free-nobody (c ∷ cs) t b h =
 -- ---- the payloads' places, which no queue and no timer has
 
 abbrev pub Payload : ℕ → Type 0
-Payload j = (6384 ≤ j) × (j < 8432)
+Payload j = (payloadsStart ≤ j) × (j < txMasksStart)
 
 pub payload-aside : Aside Payload
 payload-aside =
@@ -64,25 +64,25 @@ payload-aside =
     }
 
 -- an event of another frame leaves an owner's bit
-foreign : (o : ℕ) (s : Source) (r k v : ℕ) (e : Event) → (r ≡ rxOf e → ⊥) → turned o (ownerFrom s r k) v e ≡ v
+foreign : (o : ℕ) (s : Source) (r k v : ℕ) (e : RxEvent) → (r ≡ rxOf e → ⊥) → turned o (ownerFrom s r k) v e ≡ v
 unfolding ownerFrom OwnedBy
 foreign o (copy p s) r k v e d = turned-other o (signal r (p + k)) v e (λ x. d (sym x))
 foreign o failure r k v e d = turned-other o (indicator r) v e (λ x. d (sym x))
 
 -- what an event does to a claim, if the claim is its frame's
-unfoldable pub doneIf : ℕ → Event → List ℕ → Claim → List ℕ
+unfoldable pub doneIf : ℕ → RxEvent → List ℕ → Claim → List ℕ
 doneIf o e a c = pick (eqb (c .rx) (rxOf e)) (done o e a c) a
 
-length-done : (o : ℕ) (e : Event) (a : List ℕ) (c : Claim) → length (done o e a c) ≡ length a
+length-done : (o : ℕ) (e : RxEvent) (a : List ℕ) (c : Claim) → length (done o e a c) ≡ length a
 length-done o e a c =
     same-done {P = λ j. ⊥} (λ n h j l m p. p) (λ j l m p. p) o e a c (record { bits = λ k l p. p; wait = λ p. p; timer = λ p. p }) .len
 
-pub length-doneIf : (o : ℕ) (e : Event) (a : List ℕ) (c : Claim) → length (doneIf o e a c) ≡ length a
+pub length-doneIf : (o : ℕ) (e : RxEvent) (a : List ℕ) (c : Claim) → length (doneIf o e a c) ≡ length a
 unfolding doneIf
 length-doneIf o e a c = both (λ (x : List ℕ). length x ≡ length a) _ _ _ (length-done o e a c) refl
 
 -- all of them
-unfoldable pub allIf : ℕ → Event → List Claim → List ℕ → List ℕ
+unfoldable pub allIf : ℕ → RxEvent → List Claim → List ℕ → List ℕ
 allIf o e [] a = a
 allIf o e (c ∷ cs) a = allIf o e cs (doneIf o e a c)
 
@@ -95,7 +95,7 @@ module _ (o t b : ℕ) (frame : t < 256) (small : b < 64) where
   pub payload-bit : {x y : List ℕ} → Same Payload x y → bitAt o y (spot t b) ≡ bitAt o x (spot t b)
   payload-bit s = same-bit o s (spot t b) (omega arith)
 
-  unsent : (e : Event) (a c : List ℕ) (x place : ℕ) (s : Source) → x < 256 → now (sentBy o e a c x place s) ≡ now c
+  unsent : (e : RxEvent) (a c : List ℕ) (x place : ℕ) (s : Source) → x < 256 → now (sentBy o e a c x place s) ≡ now c
   unfolding sentBy
   unsent (accepted r payload) a c x place (copy p k) h = payload-bit (aside-sentIf payload-aside _ _ c x h)
   unsent (accepted r payload) a c x place failure h = refl
@@ -103,7 +103,7 @@ module _ (o t b : ℕ) (frame : t < 256) (small : b < 64) where
   unsent (expired r) a c x place failure h = refl
 
   inside :
-      (e : Event) (a : List ℕ) (q : ℕ) (s : Source) → q + widthOf s ≤ 64 → q ≤ b → b < q + widthOf s → 32768 ≤ length a
+      (e : RxEvent) (a : List ℕ) (q : ℕ) (s : Source) → q + widthOf s ≤ 64 → q ≤ b → b < q + widthOf s → LongEnough a
       → now (doneBy o e a (spot t q) s) ≡ turned o (ownerFrom s (rxOf e) (b - q)) (now a) e
   unfolding doneBy turned ownerFrom widthOf pick
   inside (accepted r payload) a q (copy p k) room low high long =
@@ -118,8 +118,8 @@ module _ (o t b : ℕ) (frame : t < 256) (small : b < 64) where
       rw (eq-eqb r r refl, e) (bitAt-setBit-same o a (spot t q) 1 (omega arith) (omega arith))
 
   outside :
-      (e : Event) (a : List ℕ) (x q : ℕ) (s : Source) → x < 256 → q + widthOf s ≤ 64 → ((j : ℕ) → j < widthOf s → spot t b ≢ spot x q + j)
-      → 32768 ≤ length a → now (doneBy o e a (spot x q) s) ≡ now a
+      (e : RxEvent) (a : List ℕ) (x q : ℕ) (s : Source) → x < 256 → q + widthOf s ≤ 64 → ((j : ℕ) → j < widthOf s → spot t b ≢ spot x q + j)
+      → LongEnough a → now (doneBy o e a (spot x q) s) ≡ now a
   unfolding doneBy widthOf
   outside (accepted r payload) a x q (copy p k) h room d long = copied-other o payload p a (spot x q) k (spot t b) (omega arith) d
   outside (accepted r payload) a x q failure h room d long =
@@ -130,7 +130,7 @@ module _ (o t b : ℕ) (frame : t < 256) (small : b < 64) where
 
   -- ---- one claim
 
-  module _ (e : Event) (a : List ℕ) (c : Claim) (s : Small c) (long : 32768 ≤ length a) where
+  module _ (e : RxEvent) (a : List ℕ) (c : Claim) (s : Small c) (long : LongEnough a) where
     held : Holds c t b → now (doneIf o e a c) ≡ turned o (ownerFrom (c .from) (c .rx) (b - c .at)) (now a) e
     unfolding doneIf done
     held h =
@@ -151,7 +151,7 @@ module _ (o t b : ℕ) (frame : t < 256) (small : b < 64) where
   -- ---- all of them
 
   pub by-owner :
-      (e : Event) (cs : List Claim) (a : List ℕ) → Once cs → Each Small cs → 32768 ≤ length a
+      (e : RxEvent) (cs : List Claim) (a : List ℕ) → Once cs → Each Small cs → LongEnough a
       → bitAt o (allIf o e cs a) (spot t b) ≡ turned o (ownerIn cs t b) (bitAt o a (spot t b)) e
   unfolding allIf turned ownerIn Once Each
   by-owner e [] a once s long = refl

@@ -1,5 +1,5 @@
 -- Demand 3: after any calls on any area, every kept payload bit equals the bit worked out afresh from the history since the last successful
--- opening, every table still says what the plan says, and each call alters only its own bits. Assumes nothing.
+-- opening, every table still says what the plan says, and each call alters only its own bits.
 use mathlib.Core.Path.{_≡_, refl, sym, ap, _∙_}
 use mathlib.Core.List.{List, [], _++_}
 use mathlib.Core.Option.{some}
@@ -9,7 +9,7 @@ use lib.ListN.{length}
 use Rattle.records.specs.Records.{records}
 use Rattle.plan.specs.Rows.{txOf, orderIn}
 use Rattle.facts.specs.Good.{GoodPlan}
-use Rattle.area.specs.Claims.{Event}
+use Rattle.area.specs.Claims.{RxEvent}
 use Rattle.tables.specs.Reads.{initial, Reads, Begun}
 use Rattle.model.specs.Calls.{Step, opening, reception, tick, take, fullness, call}
 use Rattle.history.specs.Calls.{areaAfter, stepped, afterIn}
@@ -24,11 +24,11 @@ use Rattle.history.proofs.Receptions.{reception-turns}
 use Rattle.history.proofs.Only.{taken-leaves, only-theirs}
 
 -- a bit of value v after some events, by the plan
-abbrev replayed : List ℕ → ℕ → ℕ → List Event → ℕ → ℕ
+abbrev replayed : List ℕ → ℕ → ℕ → List RxEvent → ℕ → ℕ
 replayed plan t b log v = replay (orderIn (records plan)) (owner plan t b) log v
 
 -- each bit is what the events since the opening have made of it, one after the other
-abbrev Replayed : List ℕ → List Event → List ℕ → Type 0
+abbrev Replayed : List ℕ → List RxEvent → List ℕ → Type 0
 Replayed plan log a = (t b : ℕ) → t < length (txOf plan) → b < 64 → keptBit plan a t b ≡ replayed plan t b log (initial plan t b)
 
 begins : (plan a : List ℕ) → GoodPlan plan → Reads plan a → Begun plan a → Replayed plan [] a
@@ -47,7 +47,7 @@ after-turns plan good t b frame small (call (take n)) later a reads = taken-leav
 after-turns plan good t b frame small (call (fullness x)) later a reads = refl
 
 goes-on :
-    (plan : List ℕ) → GoodPlan plan → (log : List Event) (c : Step) → Later c → (a : List ℕ) → Reads plan a → Replayed plan log a
+    (plan : List ℕ) → GoodPlan plan → (log : List RxEvent) (c : Step) → Later c → (a : List ℕ) → Reads plan a → Replayed plan log a
     → Replayed plan (log ++ told (some plan) c a) (stepped a c)
 goes-on plan good log c later a reads bits t b h l =
     after-turns plan good t b (omega (arith, good .counts .tx)) l c later a reads

@@ -1,4 +1,4 @@
--- What each call after an opening leaves of an area that holds a good plan: every steady byte, and so all that is read there. Assumes nothing.
+-- What each call after an opening leaves of an area that holds a good plan: every steady byte, and so all that is read there.
 use mathlib.Core.Path.{refl}
 use mathlib.Core.List.{List}
 use Prim.Native.Nat.{ℕ, zero, suc, _+_, _<_, _≤_}
@@ -8,10 +8,11 @@ use Rattle.records.specs.declared.record.RxNumber.{RxNumber}
 use Rattle.plan.specs.Rows.{rowsOf, noRow}
 use Rattle.facts.specs.Good.{GoodPlan}
 use Rattle.area.specs.Layout.{rxTimer, counter, order, txCount, rxCount, claims}
-use Rattle.area.specs.Claims.{Event, expired, allDone}
+use Rattle.area.specs.Claims.{RxEvent, expired, allDone}
 use Rattle.area.proofs.Frame.{Same, same-refl, same-then, same-set, same-pick}
-use Rattle.reception.specs.Lookup.{firstRow, rowCount, rowsPart, lookedUp}
-use Rattle.reception.specs.Reception.{acceptedArea, receivedArea}
+use Rattle.area.specs.Layout.{firstRow, rowCount}
+use Rattle.reception.specs.Lookup.{rowsPart, lookedUp}
+use Rattle.reception.specs.Reception.{restarted, acceptedArea, receivedArea}
 use Rattle.reception.proofs.Search.{found-among}
 use Rattle.reception.proofs.ReceptionLaws.{For, by-answer as by-received}
 use Rattle.ticking.specs.Tick.{expiredArea, rxTick, rxTicks, ticked, tickAnswer}
@@ -43,13 +44,13 @@ module _ (plan : List ℕ) (good : GoodPlan plan) where
       omega (arith, reads .node n (omega (arith, f .known)) .within)
 
   steady-claims :
-      (a b : List ℕ) → Reads plan a → (e : Event) (r : ℕ) → r < length (rowsOf plan) → Same Steady b (allDone (order a) e (claims a r) b)
+      (a b : List ℕ) → Reads plan a → (e : RxEvent) (r : ℕ) → r < length (rowsOf plan) → Same Steady b (allDone (order a) e (claims a r) b)
   steady-claims a b reads e r h =
       aside-allDone steady-aside (λ j l m p. p .high (omega arith) m) (order a) e (claims a r) b
       (rw (reads .rx r h .claims) (row-small plan good noRow r h))
 
   pub steady-accepted : (a : List ℕ) → Reads plan a → (r : ℕ) (payload : List ℕ) → r < length (rowsOf plan) → Same Steady a (acceptedArea a r payload)
-  unfolding acceptedArea
+  unfolding restarted acceptedArea
   steady-accepted a reads r payload h =
       same-then (aside-count steady-aside a (rxTimer r) _ (omega arith) (omega (arith, few r h)) (omega arith)) (steady-claims a _ reads _ r h)
 

@@ -1,4 +1,4 @@
--- A reception alters only bits that its frame owns, a tick only failure bits, a take and a fullness none. Assumes nothing.
+-- A reception alters only bits that its frame owns, a tick only failure bits, a take and a fullness none.
 use mathlib.Core.Path.{_≡_, refl, _∙_}
 use mathlib.Core.List.{List, [], _∷_}
 use Prim.Native.Nat.{ℕ, suc, _<_}
@@ -12,7 +12,7 @@ use Rattle.facts.specs.Good.{GoodPlan}
 use Rattle.answers.specs.declared.Ticked.{Ticked}
 use Rattle.answers.specs.declared.Ticked.the-variants.{Done, Refused}
 use Rattle.area.specs.Layout.{spot}
-use Rattle.area.specs.Claims.{Event, accepted, expired}
+use Rattle.area.specs.Claims.{RxEvent, accepted, expired}
 use Rattle.reception.proofs.ReceptionLaws.{by-answer}
 use Rattle.taking.specs.Taken.{takenArea}
 use Rattle.tables.specs.Reads.{Reads}
@@ -39,7 +39,7 @@ module _ (o : ℕ) (w : Owner) (d : IsIndicator w → ⊥) where
   unfolding toldReport replay
   report-leaves r [] v = refl
   report-leaves r (x ∷ xs) v =
-      both (λ (log : List Event). replay o w log v ≡ v) (eqb x 0) _ _ (report-leaves (suc r) xs v)
+      both (λ (log : List RxEvent). replay o w log v ≡ v) (eqb x 0) _ _ (report-leaves (suc r) xs v)
       (report-leaves (suc r) xs (turned o w v (expired r)) ∙ turned-expired o w v r d)
 
   tick-leaves : (x : Ticked) (n : ℕ) (report : List ℕ) (v : ℕ) → replay o w (toldTick x n report) v ≡ v

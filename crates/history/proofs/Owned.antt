@@ -1,8 +1,8 @@
 -- What an event does to one bit of a payload, by the claims of its Rx frame alone: the claims of the plan are those of its rows, and an event
--- acts on those of its own row, so that the bit's owner decides. Assumes nothing.
+-- acts on those of its own row, so that the bit's owner decides.
 use mathlib.Core.Path.{_≡_, refl, ap, _∙_}
 use mathlib.Core.List.{List, [], _∷_, _++_}
-use Prim.Native.Nat.{ℕ, zero, suc, _+_, _<_, _≤_}
+use Prim.Native.Nat.{ℕ, zero, suc, _+_, _<_}
 use native.Mathlib.Omega.{arith}
 use lib.ListN.{length, getD}
 use borrow.Author.Tests.{eq-eqb, ne-eqb}
@@ -10,8 +10,8 @@ use Rattle.base.specs.Pick.{pick}
 use Rattle.bits.specs.Payload.{bitAt}
 use Rattle.plan.specs.Rows.{Claim, Row, rowsOf, allClaims, claimsOf, noRow}
 use Rattle.facts.specs.Good.{Each, GoodPlan}
-use Rattle.area.specs.Layout.{spot}
-use Rattle.area.specs.Claims.{Event, done, allDone}
+use Rattle.area.specs.Layout.{LongEnough, spot}
+use Rattle.area.specs.Claims.{RxEvent, done, allDone}
 use Rattle.tables.specs.Reads.{rowAt}
 use Rattle.history.specs.Fresh.{owner}
 use Rattle.facts.proofs.ByNumber.{claims-small}
@@ -19,7 +19,7 @@ use Rattle.history.proofs.Rows.{Of, Numbered, rows-numbered}
 use Rattle.history.proofs.Replay.{rxOf, turned}
 use Rattle.history.proofs.Bits.{doneIf, allIf, by-owner}
 
-module _ (o : ℕ) (e : Event) where
+module _ (o : ℕ) (e : RxEvent) where
   if-append : (xs ys : List Claim) (a : List ℕ) → allIf o e (xs ++ ys) a ≡ allIf o e ys (allIf o e xs a)
   unfolding allIf
   if-append [] ys a = refl
@@ -63,8 +63,8 @@ module _ (o : ℕ) (e : Event) where
 
 -- an event of row r turns each bit by its owner
 pub row-turns :
-    (plan : List ℕ) → GoodPlan plan → (o t b : ℕ) → t < 256 → b < 64 → (e : Event) (r : ℕ) → r < length (rowsOf plan) → r ≡ rxOf e
-    → (a : List ℕ) → 32768 ≤ length a
+    (plan : List ℕ) → GoodPlan plan → (o t b : ℕ) → t < 256 → b < 64 → (e : RxEvent) (r : ℕ) → r < length (rowsOf plan) → r ≡ rxOf e
+    → (a : List ℕ) → LongEnough a
     → bitAt o (allDone o e (rowAt plan r .claims) a) (spot t b) ≡ turned o (owner plan t b) (bitAt o a (spot t b)) e
 unfolding owner claimsOf
 row-turns plan good o t b frame small e r l is a long =

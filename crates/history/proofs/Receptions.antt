@@ -1,5 +1,4 @@
 -- A reception turns each bit of a payload as its answer tells: by an acceptance for the plan's Rx frame of that node and ID, or not at all.
--- Assumes nothing.
 use mathlib.Core.Path.{_≡_, refl, ap, _∙_}
 use mathlib.Core.List.{List}
 use Prim.Native.Nat.{ℕ, _+_, _<_, _≤_}
@@ -14,9 +13,9 @@ use Rattle.facts.specs.Good.{GoodPlan}
 use Rattle.facts.proofs.FactsGood.{facts-good}
 use Rattle.answers.specs.declared.Received.{Received}
 use Rattle.answers.specs.declared.Received.the-variants.{Accepted, NoRow, TooShort, Refused}
-use Rattle.area.specs.Layout.{rxTimer, spot}
+use Rattle.area.specs.Layout.{LongEnough, rxTimer, spot}
 use Rattle.area.specs.Claims.{accepted}
-use Rattle.reception.specs.Reception.{padded, acceptedArea, receivedAnswer, receivedArea}
+use Rattle.reception.specs.Reception.{padded, restarted, acceptedArea, receivedAnswer, receivedArea}
 use Rattle.reception.proofs.Padded.{padded-bit}
 use Rattle.reception.proofs.ReceptionLaws.{For, by-answer}
 use Rattle.tables.specs.Reads.{Reads}
@@ -60,11 +59,11 @@ module _ (plan : List ℕ) (good : GoodPlan plan) where
     pub accepted-turns :
         (a : List ℕ) → Reads plan a → (r : ℕ) (payload : List ℕ) → r < length (rowsOf plan) → length payload ≤ 64
         → now (acceptedArea a r payload) ≡ turned o w (now a) (accepted r payload)
-    unfolding acceptedArea
+    unfolding restarted acceptedArea
     accepted-turns a reads r payload h short =
         let l : r < 256 = omega (arith, good .counts .rx) in
         let loaded = set a (rxTimer r + 1) (byteAt a (rxTimer r)) in
-        let long : 32768 ≤ length loaded = simp length-set (reads .header .size) in
+        let long : LongEnough loaded = simp length-set (reads .header .size) in
         let count = aside-count payload-aside a (rxTimer r) (byteAt a (rxTimer r)) (omega arith) (omega arith) (omega arith) in
         rw (reads .header .order, reads .rx r h .claims) (row-turns plan good o t b frame small (accepted r (padded payload)) r h refl loaded long)
         ∙ ap (λ (v : ℕ). turned o w v (accepted r (padded payload))) (payload-bit o t b frame small count)

@@ -1,5 +1,5 @@
--- A plan's rows: the claims of each are among the plan's and have its number, and a node and an ID name one of them. Assumes nothing.
-use mathlib.Core.Path.{_≡_, refl, ap}
+-- A plan's rows: the claims of each are among the plan's and have its number, and a node and an ID name one of them.
+use mathlib.Core.Path.{_≡_, refl, sym, ap, subst}
 use mathlib.Core.List.{List, [], _∷_}
 use mathlib.Core.Option.{Option, none, some}
 use Prim.Native.Nat.{ℕ, zero, suc, _<_}
@@ -9,8 +9,8 @@ use borrow.Author.Tests.{eq-eqb}
 use Rattle.base.specs.Pick.{pick}
 use Rattle.base.proofs.Picks.{by-eqb}
 use Rattle.records.specs.declared.record.Record.{Record}
-use Rattle.records.specs.declared.record.Record.the-variants.{Head, Node, Tx, Rx, Signal, Destination, BadKind, Cut, End}
 use Rattle.records.specs.Records.{records}
+use Rattle.records.proofs.Variants.{by-rx, by-row}
 use Rattle.plan.specs.Progress.{keyOf}
 use Rattle.plan.specs.Rows.{Claim, Row, withFailure, claimsFrom, awaited, rowOf, rowsFrom, rowsOf, noRow}
 use Rattle.facts.specs.Good.{Each, Rising, GoodPlan}
@@ -31,15 +31,9 @@ of-failure n (some q) t cs h = (refl, h)
 of-claims : (n : ℕ) (w : Option ℕ) (p s : ℕ) (rs : List Record) → Each (Of n) (claimsFrom n w p s rs)
 unfolding claimsFrom Each
 of-claims n w p s [] = tt
-of-claims n w p s (Signal p′ s′ ∷ rs) = of-claims n w p′ s′ rs
-of-claims n w p s (Destination t q ∷ rs) = of-failure n w (t .0) _ (refl, of-claims n none p s rs)
-of-claims n w p s (Head order ∷ rs) = tt
-of-claims n w p s (Node type ∷ rs) = tt
-of-claims n w p s (Tx frame ∷ rs) = tt
-of-claims n w p s (Rx frame ∷ rs) = tt
-of-claims n w p s (BadKind ∷ rs) = tt
-of-claims n w p s (Cut kind ∷ rs) = tt
-of-claims n w p s (End ∷ rs) = tt
+of-claims n w p s (r ∷ rs) =
+    by-row (λ r. Each (Of n) (claimsFrom n w p s (r ∷ rs))) (λ x. tt) (λ body. of-claims n w (body .position) (body .size) rs)
+    (λ body. of-failure n w (body .tx .0) _ (refl, of-claims n none p s rs)) (λ r no. subst (Each (Of n)) (sym (no .by _ _ _ _)) tt) r
 
 -- the claims of the rows, which are numbered from n on
 unfoldable pub Numbered : ℕ → List Row → Type 0
@@ -49,15 +43,9 @@ Numbered n (r ∷ rs) = Each (Of n) (r .claims) × Numbered (suc n) rs
 numbered-from : (n : ℕ) (rs : List Record) → Numbered n (rowsFrom n rs)
 unfolding rowsFrom rowOf Numbered
 numbered-from n [] = tt
-numbered-from n (Rx x ∷ rs) = (of-claims n (awaited x) 0 0 rs, numbered-from (suc n) rs)
-numbered-from n (Head order ∷ rs) = numbered-from n rs
-numbered-from n (Node type ∷ rs) = numbered-from n rs
-numbered-from n (Tx frame ∷ rs) = numbered-from n rs
-numbered-from n (Signal p s ∷ rs) = numbered-from n rs
-numbered-from n (Destination t q ∷ rs) = numbered-from n rs
-numbered-from n (BadKind ∷ rs) = numbered-from n rs
-numbered-from n (Cut kind ∷ rs) = numbered-from n rs
-numbered-from n (End ∷ rs) = numbered-from n rs
+numbered-from n (r ∷ rs) =
+    by-rx (λ r. Numbered n (rowsFrom n (r ∷ rs))) (λ x. (of-claims n (awaited x) 0 0 rs, numbered-from (suc n) rs))
+    (λ r no. subst (Numbered n) (sym (no .by _ _)) (numbered-from n rs)) r
 
 pub rows-numbered : (plan : List ℕ) → Numbered 0 (rowsOf plan)
 unfolding rowsOf

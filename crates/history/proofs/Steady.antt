@@ -1,25 +1,26 @@
 -- The bytes that no call after an opening changes: all but the tick counter, the queues' ends and entries, the counts of the timers, the long
--- counters, the waits and the payloads. All that `Reads` says is read there. Assumes nothing.
+-- counters, the waits and the payloads. All that `Reads` says is read there.
 use mathlib.Core.Path.{_≡_, _∙_}
 use mathlib.Core.List.{List}
 use Prim.Native.Nat.{ℕ, _+_, _%_, _<_, _≤_}
 use native.Mathlib.Omega.{arith}
 use Rattle.base.specs.Numbers.{twoAt}
+use Rattle.area.specs.Layout.{counterByte, queuesStart, txTimersStart, longStart, fullStart, entriesStart, txMasksStart}
 use Rattle.area.specs.Layout.{node, queue, txTimer, rxTimer, full, row, txMask, rxMask}
 use Rattle.area.proofs.Frame.{Same, same-two, same-fewer}
 use Rattle.area.proofs.Kept.{Planned, Kept, in-header, in-tables, marked-kept, order-kept, nodeCount-kept, txCount-kept, rxCount-kept}
 use Rattle.area.proofs.Kept.{start-kept, room-kept, planOf-kept, txFrame-kept, rxFrame-kept, claims-kept}
-use Rattle.reception.specs.Lookup.{firstRow, rowCount}
+use Rattle.area.specs.Layout.{firstRow, rowCount}
 use Rattle.tables.specs.Reads.{Header, TxTable, RxTable, NodeTable, Rings, Reads}
 use Rattle.history.proofs.Aside.{Aside}
 
 pub record Steady (j : ℕ) : Type 0 where
-  pub count : j ≡ 2 → ⊥
+  pub count : j ≡ counterByte → ⊥
   pub ends : (n : ℕ) → n < 16 → queue n + 4 ≤ j → j < queue n + 8 → ⊥
   -- of a timer, the count stands second
-  pub timers : 208 ≤ j → j < 1232 → j % 2 ≡ 1 → ⊥
-  pub low : 1232 ≤ j → j < 2000 → ⊥
-  pub high : 5328 ≤ j → j < 8432 → ⊥
+  pub timers : txTimersStart ≤ j → j < longStart → j % 2 ≡ 1 → ⊥
+  pub low : longStart ≤ j → j < fullStart → ⊥
+  pub high : entriesStart ≤ j → j < txMasksStart → ⊥
 
 pub planned-steady : (j : ℕ) → Planned j → Steady j
 planned-steady j p =
@@ -32,7 +33,7 @@ planned-steady j p =
     }
 
 -- from the timers on: a reload value, or a place past the payloads
-steady-from : (j : ℕ) → 208 ≤ j → (j < 1232 → j % 2 ≡ 0) → (1232 ≤ j → 8432 ≤ j) → Steady j
+steady-from : (j : ℕ) → txTimersStart ≤ j → (j < longStart → j % 2 ≡ 0) → (longStart ≤ j → txMasksStart ≤ j) → Steady j
 steady-from j h even past =
     record {
       count = λ e. omega arith;
@@ -42,10 +43,10 @@ steady-from j h even past =
       high = λ x y. omega (arith, past (omega arith));
     }
 
-pub reload-steady : (j : ℕ) → 208 ≤ j → j < 1232 → j % 2 ≡ 0 → Steady j
+pub reload-steady : (j : ℕ) → txTimersStart ≤ j → j < longStart → j % 2 ≡ 0 → Steady j
 reload-steady j h l e = steady-from j h (λ x. e) (λ x. omega arith)
 
-pub mask-steady : (j : ℕ) → 8432 ≤ j → Steady j
+pub mask-steady : (j : ℕ) → txMasksStart ≤ j → Steady j
 mask-steady j h = steady-from j (omega arith) (λ x. omega arith) (λ x. h)
 
 pub steady-aside : Aside Steady
@@ -64,10 +65,10 @@ module _ {a b : List ℕ} (s : Same Steady a b) where
   kept-steady = same-fewer planned-steady s
 
   -- a number of two bytes among the nodes, and in a table
-  node-two : (j : ℕ) → 2 < j → j < 79 → twoAt b j ≡ twoAt a j
+  node-two : (j : ℕ) → counterByte < j → j + 1 < queuesStart → twoAt b j ≡ twoAt a j
   node-two j h l = same-two kept-steady j (in-header j (omega arith) (λ e. omega arith)) (in-header (j + 1) (omega arith) (λ e. omega arith))
 
-  table-two : (j : ℕ) → 2000 ≤ j → j < 5327 → twoAt b j ≡ twoAt a j
+  table-two : (j : ℕ) → fullStart ≤ j → j + 1 < entriesStart → twoAt b j ≡ twoAt a j
   table-two j h l = same-two kept-steady j (in-tables j h (omega arith)) (in-tables (j + 1) (omega arith) (omega arith))
 
   module _ {plan : List ℕ} where

@@ -1,4 +1,4 @@
--- A tick turns each bit of a payload by the expiries that its report tells, and by nothing else. Assumes nothing.
+-- A tick turns each bit of a payload by the expiries that its report tells, and by nothing else.
 use mathlib.Core.Path.{_≡_, refl, sym, ap, _∙_}
 use mathlib.Core.Bool.{Bool, true, false}
 use mathlib.Core.List.{List, [], _∷_, _++_}
@@ -18,9 +18,11 @@ use Rattle.plan.specs.Rows.{rowsOf, orderIn}
 use Rattle.facts.specs.Good.{GoodPlan}
 use Rattle.answers.specs.declared.Ticked.{Ticked}
 use Rattle.area.specs.Layout.{rxTimer, long, rxMask, spot, counter, txCount, rxCount}
-use Rattle.area.specs.Claims.{Event, expired}
+use Rattle.area.specs.Claims.{RxEvent, expired}
 use Rattle.area.proofs.Frame.{same-refl, same-set}
-use Rattle.ticking.specs.Tick.{due, timed, txTicks, expiredArea, expiredReport, rxTick, rxReport, rxTicks, reported}
+use Rattle.clock.specs.Counter.{noCommonBit}
+use Rattle.ticking.specs.Tick.{timed, txTicks, expiredArea, expiredReport, rxTick, rxReport, rxTicks, reported}
+use Rattle.clock.specs.Counter.{noCommonBit}
 use Rattle.ticking.specs.Tick.{ticked, tickAnswer, tickedArea, tickedReport}
 use Rattle.ticking.proofs.TickLaws.{length-reported, byte-reported}
 use Rattle.tables.specs.Reads.{Reads}
@@ -40,7 +42,7 @@ unfolding toldReport
 told-append r [] ys = rw (add-zero r)
 told-append r (x ∷ xs) ys =
     let e : r + suc (length xs) ≡ suc r + length xs = omega arith in
-    rw (e, told-append (suc r) xs ys) (sym (into (λ (l : List Event). l ++ toldReport (suc r + length xs) ys) (eqb x 0) _ _))
+    rw (e, told-append (suc r) xs ys) (sym (into (λ (l : List RxEvent). l ++ toldReport (suc r + length xs) ys) (eqb x 0) _ _))
 
 -- one byte more
 told-more : (n : ℕ) (xs : List ℕ) → n < length xs → toldReport 0 (take (suc n) xs) ≡ toldReport 0 (take n xs) ++ toldReport n (byteAt xs n ∷ [])
@@ -83,7 +85,7 @@ module _ (plan : List ℕ) (good : GoodPlan plan) (t b : ℕ) (frame : t < 256) 
       let stays = payload-bit o t b frame small (aside-timed payload-aside a (rxTimer r) (omega arith) (omega arith) (omega arith)) in
       let s = aside-timed steady-aside a (rxTimer r) (omega arith) (omega arith) (omega arith) in
       let turns = row-expires (timed a (rxTimer r)) (reads-steady s reads) r h ∙ ap (λ (v : ℕ). turned o w v (expired r)) stays in
-      pairs P (due k (byteAt a (rxMask r))) _ _ _ _
+      pairs P (noCommonBit k (byteAt a (rxMask r))) _ _ _ _
       (pairs P (eqb (byteAt a (rxTimer r + 1)) 1) _ _ _ _
       (both (λ (y : ℕ). P (expiredArea (timed a (rxTimer r)) r) y) (eqb (byteAt a (long r)) 1) 2 1 turns turns) stays)
       refl
@@ -98,13 +100,13 @@ module _ (plan : List ℕ) (good : GoodPlan plan) (t b : ℕ) (frame : t < 256) 
   rows-tick k a reads xs (suc n) h l is =
       let before = rxTicks k n a in
       let s = steady-rxTicks plan good k n a reads (omega arith) in
-      let last : List Event = toldReport n (byteAt xs n ∷ []) in
+      let last : List RxEvent = toldReport n (byteAt xs n ∷ []) in
       let one : now (rxTick k before n) ≡ replay o w last (now before) =
       rw (is n (omega arith)) (row-ticks k before (reads-steady s reads) n (omega arith)) in
       one
       ∙ ap (replay o w last) (rows-tick k a reads xs n (omega arith) (omega arith) (λ r m. is r (omega arith)))
       ∙ sym (replay-append o w (toldReport 0 (take n xs)) last (now a))
-      ∙ ap (λ (log : List Event). replay o w log (now a)) (sym (told-more n xs (omega arith)))
+      ∙ ap (λ (log : List RxEvent). replay o w log (now a)) (sym (told-more n xs (omega arith)))
 
   -- ---- the call
 

@@ -11,7 +11,7 @@ use Rattle.base.specs.Pick.{pick}
 use Rattle.bits.specs.Payload.{bitAt}
 use Rattle.records.specs.Records.{records}
 use Rattle.plan.specs.Rows.{Source, copy, failure, widthOf, Claim, claimsOf, orderIn}
-use Rattle.area.specs.Claims.{Event, accepted, expired}
+use Rattle.area.specs.Claims.{RxEvent, accepted, expired}
 use Rattle.tables.specs.Reads.{initial}
 
 -- ---- who owns a bit
@@ -46,20 +46,20 @@ orElse (some x) y = some x
 orElse none y = y
 
 -- the payload of Rx frame r's last accepted reception
-unfoldable pub acceptedOf : ℕ → Event → Option (List ℕ)
+unfoldable pub acceptedOf : ℕ → RxEvent → Option (List ℕ)
 acceptedOf r (accepted q payload) = pick (eqb r q) (some payload) none
 acceptedOf r (expired q) = none
 
-unfoldable pub lastAccepted : ℕ → List Event → Option (List ℕ)
+unfoldable pub lastAccepted : ℕ → List RxEvent → Option (List ℕ)
 lastAccepted r [] = none
 lastAccepted r (e ∷ log) = orElse (lastAccepted r log) (acceptedOf r e)
 
 -- 1 where the latest of Rx frame r's expiries and accepted receptions was an expiry, 0 where a reception
-unfoldable pub failedBy : ℕ → Event → Option ℕ
+unfoldable pub failedBy : ℕ → RxEvent → Option ℕ
 failedBy r (accepted q payload) = pick (eqb r q) (some 0) none
 failedBy r (expired q) = pick (eqb r q) (some 1) none
 
-unfoldable pub lastFailed : ℕ → List Event → Option ℕ
+unfoldable pub lastFailed : ℕ → List RxEvent → Option ℕ
 lastFailed r [] = none
 lastFailed r (e ∷ log) = orElse (lastFailed r log) (failedBy r e)
 
@@ -73,10 +73,10 @@ unfoldable pub failureBit : Option ℕ → ℕ → ℕ
 failureBit (some x) first = x
 failureBit none first = first
 
-unfoldable pub freshBy : ℕ → Owner → List Event → ℕ → ℕ
+unfoldable pub freshBy : ℕ → Owner → List RxEvent → ℕ → ℕ
 freshBy order nobody log first = first
 freshBy order (signal r k) log first = sourceBit order (lastAccepted r log) k first
 freshBy order (indicator r) log first = failureBit (lastFailed r log) first
 
-unfoldable pub fresh : List ℕ → List Event → ℕ → ℕ → ℕ
+unfoldable pub fresh : List ℕ → List RxEvent → ℕ → ℕ → ℕ
 fresh plan log t b = freshBy (orderIn (records plan)) (owner plan t b) log (initial plan t b)

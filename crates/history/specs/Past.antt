@@ -7,7 +7,7 @@ use lib.Dec.{eqb}
 use lib.ListN.{length, take}
 use Rattle.base.specs.Pick.{pick}
 use Rattle.plan.specs.Rows.{Row, rowsOf}
-use Rattle.area.specs.Claims.{Event, accepted, expired}
+use Rattle.area.specs.Claims.{RxEvent, accepted, expired}
 use Rattle.answers.specs.declared.Opened.{Opened}
 use Rattle.answers.specs.declared.Opened.the-variants as opened
 use Rattle.answers.specs.declared.Received.{Received}
@@ -21,7 +21,7 @@ use Rattle.history.specs.Calls.{openAnswer, areaAfter, stepped}
 
 pub record Past : Type 0 where
   pub plan : Option (List ℕ)
-  pub log : List Event
+  pub log : List RxEvent
 
 -- before any opening
 abbrev pub unopened : Past
@@ -34,18 +34,18 @@ unfoldable pub numberFor : ℕ → ℕ → List Row → ℕ
 numberFor n id [] = 0
 numberFor n id (r ∷ rs) = pick (eqb (r .frame .node) n) (pick (eqb (r .frame .id) id) 0 (suc (numberFor n id rs))) (suc (numberFor n id rs))
 
-unfoldable pub toldReception : Received → ℕ → List ℕ → List Event
+unfoldable pub toldReception : Received → ℕ → List ℕ → List RxEvent
 toldReception Accepted r payload = accepted r payload ∷ []
 toldReception NoRow r payload = []
 toldReception TooShort r payload = []
 toldReception (Refused why) r payload = []
 
 -- the report's bytes, from that of Rx frame r on
-unfoldable pub toldReport : ℕ → List ℕ → List Event
+unfoldable pub toldReport : ℕ → List ℕ → List RxEvent
 toldReport r [] = []
 toldReport r (x ∷ xs) = pick (eqb x 0) (toldReport (suc r) xs) (expired r ∷ toldReport (suc r) xs)
 
-unfoldable pub toldTick : Ticked → ℕ → List ℕ → List Event
+unfoldable pub toldTick : Ticked → ℕ → List ℕ → List RxEvent
 toldTick ticked.Done rows report = toldReport 0 (take rows report)
 toldTick (ticked.Refused why) rows report = []
 
@@ -56,7 +56,7 @@ openedPast (opened.Open nodes tx rx) plan past = record { plan = some plan; log 
 openedPast (opened.Refused why number) plan past = past
 
 -- nothing is told before an opening
-unfoldable pub told : Option (List ℕ) → Step → List ℕ → List Event
+unfoldable pub told : Option (List ℕ) → Step → List ℕ → List RxEvent
 told none c a = []
 told (some plan) (opening p) a = []
 told (some plan) (call (reception n id payload)) a = toldReception (receivedAnswer a n id payload) (numberFor n id (rowsOf plan)) payload

@@ -1,4 +1,4 @@
--- The refusals' numbers: 1 to 15, and each stands for one refusal. Assumes nothing.
+-- The refusals' numbers: 1 to 15, and each stands for one refusal.
 use mathlib.Core.Path.{_≡_, refl}
 use Prim.Native.Nat.{_≤_}
 use native.Mathlib.Omega.{arith}

@@ -1,4 +1,4 @@
--- An opening's word gives back its answer, so no two answers have one word. Assumes nothing.
+-- An opening's word gives back its answer, so no two answers have one word.
 use mathlib.Core.Path.{_≡_, refl}
 use mathlib.Core.List.{List}
 use Prim.Native.Nat.{ℕ, _%_, _<_}

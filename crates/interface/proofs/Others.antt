@@ -1,4 +1,4 @@
--- The words of a reception, a tick and a fullness give back their answers, so no two answers of one of these calls have one word. Assumes nothing.
+-- The words of a reception, a tick and a fullness give back their answers, so no two answers of one of these calls have one word.
 use mathlib.Core.Path.{_≡_, refl}
 use mathlib.Core.List.{List}
 use Prim.Native.Nat.{ℕ, _%_, _≤_, _<_}

@@ -1,6 +1,6 @@
--- A refusal of a plan names one of its first 3,602 records: no more pass the counts. Assumes nothing.
+-- A refusal of a plan names one of its first 3,602 records: no more pass the counts.
 use mathlib.Core.Path.{_≡_}
-use mathlib.Core.Bool.{Bool, true, false≢true}
+use mathlib.Core.Bool.{Bool, true}
 use mathlib.Core.List.{List, [], _∷_}
 use Prim.Native.Nat.{ℕ, _+_, _*_, _≤_}
 use native.Mathlib.Omega.{arith}
@@ -8,8 +8,9 @@ use lib.Dec.{ltb}
 use borrow.Author.Tests.{ltb-true, eqb-true}
 use Rattle.base.proofs.Picks.{cases, both}
 use Rattle.records.specs.declared.record.Record.{Record}
-use Rattle.records.specs.declared.record.Record.the-variants.{Head, Node, Tx, Rx, Signal, Destination, BadKind, Cut, End}
-use Rattle.records.specs.Records.{kindOf, records}
+use Rattle.records.specs.declared.record.Record.the-variants.{Head, Node, Tx, Rx, Signal, Destination, Broken}
+use Rattle.records.specs.Kinds.{stageOf}
+use Rattle.records.specs.Records.{records}
 use Rattle.plan.specs.declared.verdict.Reason.{Reason}
 use Rattle.plan.specs.declared.verdict.Verdict.{Verdict}
 use Rattle.plan.specs.declared.verdict.Verdict.the-variants.{Good, Refused}
@@ -18,7 +19,7 @@ use Rattle.plan.specs.declared.progress.Next.{Next}
 use Rattle.plan.specs.Progress.{counted, rowAfter, after, start}
 use Rattle.plan.specs.Tests.{isKind, isWhole, mayStand, hasRoom}
 use Rattle.plan.specs.Check.{need, placed, judged, ended, verdictOf, checkOn, checkPlan}
-use Rattle.plan.proofs.TestLaws.{and-both}
+use Rattle.plan.proofs.TestLaws.{and-both, no-fault}
 
 -- what is known of the progress while records pass
 record Early (p : Progress) : Type 0 where
@@ -28,24 +29,22 @@ record Early (p : Progress) : Type 0 where
   signals : p .counts .signals ≤ 1024
   destinations : p .counts .destinations ≤ 2048
   number : p .number ≤ 1 + p .counts .nodes + p .counts .tx + p .counts .rx + p .counts .signals + p .counts .destinations
-  begins : p .number ≤ 3601 * p .last
+  begins : p .number ≤ 3601 * p .stage
   source : p .row .source ≤ p .number
 
 early-after :
-    (p : Progress) (r : Record) → Early p → isKind r ≡ true → isWhole r ≡ true → mayStand (p .last) r ≡ true
+    (p : Progress) (r : Record) → Early p → isKind r ≡ true → isWhole r ≡ true → mayStand (p .stage) r ≡ true
     → hasRoom (p .counts) (p .row) r ≡ true → Early (after p r)
-unfolding isKind isWhole mayStand hasRoom after counted rowAfter kindOf
-early-after p (Head order) e known whole stands room = let n = eqb-true (p .last) 0 stands in omega arith
-early-after p (Node type) e known whole stands room = let l = ltb-true (p .counts .nodes) 16 room in omega arith
+unfolding mayStand hasRoom after counted rowAfter stageOf
+early-after p (Head order) e known whole stands room = let n = eqb-true (p .stage) 0 stands in omega arith
+early-after p (Node body) e known whole stands room = let l = ltb-true (p .counts .nodes) 16 room in omega arith
 early-after p (Tx x) e known whole stands room = let l = ltb-true (p .counts .tx) 256 room in omega arith
 early-after p (Rx x) e known whole stands room = let l = ltb-true (p .counts .rx) 256 room in omega arith
-early-after p (Signal q s) e known whole stands room =
+early-after p (Signal body) e known whole stands room =
     let l = ltb-true (p .counts .signals) 1024 (and-both _ (ltb (p .row .signals) 64) room .0) in omega arith
-early-after p (Destination t q) e known whole stands room =
+early-after p (Destination body) e known whole stands room =
     let l = ltb-true (p .counts .destinations) 2048 (and-both _ (ltb (p .row .destinations) 15) room .0) in omega arith
-early-after p BadKind e known whole stands room = absurd (false≢true known)
-early-after p (Cut kind) e known whole stands room = absurd (false≢true whole)
-early-after p End e known whole stands room = absurd (false≢true known)
+early-after p (Broken fault) e known whole stands room = absurd (no-fault fault known whole)
 
 -- a verdict that names no later record
 unfoldable pub Low : Verdict → Type 0

@@ -1,16 +1,18 @@
--- A take's word gives back its answer, so no two answers have one word. Assumes nothing.
+-- A take's word gives back its answer, so no two answers have one word.
 use mathlib.Core.Path.{_≡_, refl}
 use mathlib.Core.List.{List}
-use Prim.Native.Nat.{ℕ, _+_, _*_, _/_, _%_, _<_}
+use Prim.Native.Nat.{ℕ, _+_, _*_, _/_, _%_, _<_, _≤_}
 use native.Mathlib.Omega.{arith}
 use borrow.Author.Tests.{ne-eqb}
 use Rattle.base.specs.Pick.{pick}
 use Rattle.base.specs.Numbers.{twoAt}
 use Rattle.base.proofs.Picks.{both}
 use Rattle.bits.proofs.PayloadLaws.{Bytes}
-use Rattle.records.specs.declared.record.Record.{Record}
-use Rattle.records.specs.Records.{txAt, fieldsAt, recordAt}
-use Rattle.area.specs.Layout.{queue, asTx, planOf, txFrame}
+use Rattle.records.specs.Views.{asTx}
+use Rattle.records.specs.Kinds.{txAt}
+use Rattle.records.specs.Records.{recordAt}
+use Rattle.records.proofs.RecordLaws.{tx-there}
+use Rattle.area.specs.Layout.{payloadWidth, queue, planOf, txFrame}
 use Rattle.area.specs.Queue.{endsOf, oldest}
 use Rattle.area.proofs.NarrowLaws.{bytes-plan}
 use Rattle.answers.specs.declared.Refusal.{Refusal}
@@ -37,7 +39,7 @@ refused-back why =
     let n = numbered why in
     rw (ne-eqb (refusalNumber why % 65536) 256 (omega arith), ne-eqb (refusalNumber why) 0 (omega arith), n .back)
 
-frame-back : (t id size waiting : ℕ) → t < 256 → id < 65536 → size < 9 → waiting < 65536 → Back (Frame (record { 0 = t }) id size waiting)
+frame-back : (t id size waiting : ℕ) → t < 256 → id < 65536 → size ≤ payloadWidth → waiting < 65536 → Back (Frame (record { 0 = t }) id size waiting)
 unfolding takenOf takenWord pick
 frame-back t id size waiting ht hi hs hw =
     let st : t % 256 ≡ t = omega arith in
@@ -58,16 +60,8 @@ two-small : (a : List ℕ) (k : ℕ) → Bytes a → twoAt a k < 65536
 two-small a k b = omega (arith, b k, b (k + 1))
 
 id-small : (plan : List ℕ) (at : ℕ) → Bytes plan → asTx (recordAt plan at) .id < 65536
-unfolding recordAt fieldsAt txAt asTx
-id-small plan at b =
-    let P : Record → Type 0 = λ r. asTx r .id < 65536 in
-    let z : _<_ 0 65536 = omega arith in
-    both P _ _ _ z
-    (both P _ _ _ z
-    (both P _ _ _ z
-    (both P _ _ _ z
-    (both P _ _ _ z
-    (both P _ _ _ (two-small plan (at + 2) b) (both P _ _ _ z (both P _ _ _ z (both P _ _ _ z z))))))))
+unfolding txAt
+id-small plan at b = tx-there (λ x. x .id < 65536) plan at (omega arith) (two-small plan (at + 2) b)
 
 oldest-back : (a : List ℕ) (n : ℕ) → Bytes a → Back (oldestAnswer a n)
 unfolding oldestAnswer txFrame endsOf

@@ -1,4 +1,4 @@
--- The four numbers of a word. Assumes nothing.
+-- The four numbers of a word.
 use mathlib.Core.Path.{_≡_}
 use Prim.Native.Nat.{ℕ, _%_}
 use native.Mathlib.Omega.{arith}

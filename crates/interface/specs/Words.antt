@@ -1,9 +1,8 @@
 -- Each answer as one word of 64 bits, which C can take: four numbers of 16 bits, the lowest first. The lowest byte is document 01's number of the
 -- answer or the refusal; it is 0 where there is neither.
 use Prim.Native.Nat.{ℕ, _+_, _*_, _/_, _%_}
-use lib.Dec.{leb}
 use Rattle.base.specs.Pick.{pick}
-use Rattle.area.specs.Layout.{payload}
+use Rattle.area.specs.Layout.{longEnough, payload, inWidth}
 use Rattle.answers.specs.declared.Opened.{Opened}
 use Rattle.answers.specs.declared.Opened.the-variants as opened
 use Rattle.answers.specs.declared.Ticked.{Ticked}
@@ -53,6 +52,6 @@ fullnessWord (fullness.Refused why) = refusalNumber why
 
 -- the payload of what was taken, as a part of an area of n bytes: its size, and where it begins. The empty part is 0.
 unfoldable pub payloadWord : ℕ → Taken → ℕ
-payloadWord n (taken.Frame t id size waiting) = pick (leb 32768 n) (packed 0 (size % 9) (payload (t .0 % 256)) 0) 0
+payloadWord n (taken.Frame t id size waiting) = pick (longEnough n) (packed 0 (inWidth size) (payload (t .0 % 256)) 0) 0
 payloadWord n taken.Nothing = 0
 payloadWord n (taken.Refused why) = 0

@@ -5,6 +5,10 @@ use answers::Received;
 use answers::Refusal;
 use answers::Taken;
 use answers::Ticked;
+use area::layout;
+use area::layout::AREA_LENGTH;
+use area::layout::in_width;
+use records::record::TxNumber;
 ghost use mathlib.Core.Path.{_≡_};
 ghost use Rattle.answers.specs.Answers.{refusalNumber, receivedNumber};
 ghost use Rattle.interface.specs.Words.{packed, openedWord, tickedWord, takenWord, fullnessWord, payloadWord};
@@ -86,9 +90,10 @@ pub fn payload_word(length: usize, taken: u64) -> u64
     ensures { λ r. ⌜ r ≡ payloadWord length (takenOf taken) ⌝ }
 {
     if taken % 65536 == 256 {
-        if 32768 <= length {
+        if AREA_LENGTH <= length {
             let frame = (taken / 65536 % 65536) as usize;
-            return pack(0, frame / 256 % 9, 6384 + 8 * (frame % 256), 0);
+            let size = in_width(frame / 256);
+            return pack(0, size, layout::payload(TxNumber(frame % 256)), 0);
         }
     }
     0

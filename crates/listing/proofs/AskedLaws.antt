@@ -1,4 +1,4 @@
--- Laws of what an input asks for: its calls, its IDs, its plan. Assumes nothing.
+-- Laws of what an input asks for: its calls, its IDs, its plan.
 use mathlib.Core.List.{List, [], _∷_}
 use Prim.Native.Nat.{ℕ, zero, suc, _+_, _-_, _<_}
 use native.Mathlib.Omega.{arith}

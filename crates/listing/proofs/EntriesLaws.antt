@@ -1,4 +1,4 @@
--- What event records ask for, wherever they stand, with nothing or a broken record behind them. Assumes nothing.
+-- What event records ask for, wherever they stand, with nothing or a broken record behind them.
 use mathlib.Core.Path.{_≡_, refl, ap}
 use mathlib.Core.Bool.{true}
 use mathlib.Core.List.{List, [], _∷_, _++_, append-assoc}

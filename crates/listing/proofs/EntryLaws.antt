@@ -1,4 +1,4 @@
--- An event record is read as it is written, wherever it stands. Assumes nothing.
+-- An event record is read as it is written, wherever it stands.
 use mathlib.Core.Path.{_≡_, refl, sym, ap, _∙_}
 use mathlib.Core.Bool.{Bool, true, false}
 use mathlib.Core.List.{List, [], _∷_, _++_}

@@ -1,15 +1,16 @@
--- Document 01's listing, from the input's bytes to the lines, by computing. Assumes nothing.
+-- Document 01's listing, from the input's bytes to the lines, by computing.
 use mathlib.Core.Path.{_≡_, refl}
 use Rattle.base.specs.Pick.{pick}
 use Rattle.bits.specs.Digit.{digit, setDigit}
 use Rattle.bits.specs.Payload.{digitOf, bitAt, setBit, copied, differs}
 use Rattle.clock.specs.Timer.{lowered}
-use Rattle.records.specs.Records.{lengthOf, eightAt, txAt, rxAt, fieldsAt, recordAt, sizeOf, recordsFrom, recordsAt, records}
+use Rattle.records.specs.Kinds.{formOf, lengthOf, eightAt, txAt, rxAt, fieldsAt, kindOf}
+use Rattle.records.specs.Records.{recordAt, sizeOf, recordsFrom, recordsAt, records}
 use Rattle.plan.specs.Rows.{widthOf, withFailure, claimsFrom, awaited, rowOf, rowsFrom, rowsOf, allClaims, txFrames, txOf, nodesIn, orderIn}
 use Rattle.plan.specs.declared.verdict.Verdict.the-variants.{Good}
 use Rattle.plan.specs.Check.{checkPlan}
-use Rattle.facts.specs.Cases.{listing}
-use Rattle.facts.proofs.Cases.{cases-hold}
+use Rattle.facts.specs.PlanCases.{listing}
+use Rattle.facts.proofs.PlanCases.{plan-cases-hold}
 use Rattle.answers.specs.Answers.{refusalNumber, receivedNumber}
 use Rattle.text.specs.Text.{glyph, decimalIn, decimal, hexByte, each, spaced}
 use Rattle.events.specs.Events.{frontOf, eventLength, wholeEvent, eventAt, eventSize, payloadAt}
@@ -26,8 +27,15 @@ use Rattle.listing.specs.Output.{answerLine, lineOf, linesOf, askedOf, t
 use Rattle.listing.specs.Listing.{ListingHolds}
 
 is-good : checkPlan listing ≡ Good 1 1 1
-is-good = cases-hold .1 .1 .1 .1 .1 .1 .1 .1 .1 .1 .1 .1 .1 .1 .1 .1 .1 .1 .1 .1 .1 .1 .1 .0
+is-good = plan-cases-hold .1 .1 .1 .1 .1 .1 .1 .1 .1 .1 .1 .1 .1 .1 .1 .1 .1 .1 .1 .1 .1 .1 .1 .0
 
 pub listing-holds : ListingHolds
-unfolding pick digit setDigit digitOf bitAt setBit copied differs lowered lengthOf eightAt txAt rxAt fieldsAt recordAt sizeOf recordsFrom recordsAt records widthOf withFailure claimsFrom awaited rowOf rowsFrom rowsOf allClaims txFrames txOf nodesIn orderIn mapped begun openAnswer isIn joined scheduled handled txLowered txTurn txTurns failedBy failed expired rxLowered rxTurn rxTurns reportOf reported tickedState tickAnswer ticked tickReport oldestAnswer oldestPayload withoutOldest takenAnswer takenPayload taken find sentIf putBy put accepted foundAnswer foundState receivedAnswer received answerOf nextOf answerFrom nextFrom openNext theModel replyOf worldAfter replies refusalNumber receivedNumber glyph decimalIn decimal hexByte each spaced frontOf eventLength wholeEvent eventAt eventSize payloadAt wordLine numbersLine planLine rxLine tickLine payloadText frameLine takeLine badLine askedBy askedIn askedFrom answerLine lineOf linesOf askedOf textOf frontText modelOutput
+unfolding pick digit setDigit digitOf bitAt setBit copied differs lowered formOf lengthOf eightAt txAt rxAt fieldsAt kindOf recordAt sizeOf
+    recordsFrom recordsAt records widthOf withFailure claimsFrom awaited rowOf rowsFrom rowsOf allClaims txFrames txOf nodesIn orderIn mapped
+    begun openAnswer isIn joined scheduled handled txLowered txTurn txTurns failedBy failed expired rxLowered rxTurn rxTurns reportOf reported
+    tickedState tickAnswer ticked tickReport oldestAnswer oldestPayload withoutOldest takenAnswer takenPayload taken find sentIf putBy put
+    accepted foundAnswer foundState receivedAnswer received answerOf nextOf answerFrom nextFrom openNext theModel replyOf worldAfter replies
+    refusalNumber receivedNumber glyph decimalIn decimal hexByte each spaced frontOf eventLength wholeEvent eventAt eventSize payloadAt wordLine
+    numbersLine planLine rxLine tickLine payloadText frameLine takeLine badLine askedBy askedIn askedFrom answerLine lineOf linesOf askedOf textOf
+    frontText modelOutput
 listing-holds = rw is-good refl

@@ -1,5 +1,5 @@
 -- Every input of bytes is bad from its front on, or a plan and whole event records, with nothing or a broken record behind them. So the rules of the
--- input leave no second text. Assumes nothing.
+-- input leave no second text.
 use mathlib.Core.Path.{_≡_, refl, sym, ap, _∙_}
 use mathlib.Core.Logic.{_⊎_, inl, inr}
 use mathlib.Core.List.{List, [], _∷_, _++_, append-assoc, append-nil}

@@ -1,4 +1,4 @@
--- The bench program's output on an area is that over the model, since the area answers as the model does. Assumes nothing.
+-- The bench program's output on an area is that over the model, since the area answers as the model does.
 use mathlib.Core.Path.{_≡_, refl, sym, ap, _∙_}
 use mathlib.Core.List.{List, [], _∷_, _++_, append-assoc, append-nil}
 use Prim.Native.Nat.{ℕ, zero, suc, _+_, _-_, _%_}
@@ -21,6 +21,7 @@ use Rattle.lines.specs.Lines.{planLine, badLine}
 use Rattle.output.specs.Output as area
 use Rattle.output.proofs.OutputLaws.{none}
 use Rattle.base.specs.Numbers.{Bytes}
+use Rattle.plan.specs.Shortest.{shortestArea}
 use Rattle.model.specs.Rules.{OfBytes}
 use Rattle.model.specs.Opening.{openAnswer}
 use Rattle.model.specs.Calls.{Call, reception, tick, take, closed, theModel, Step, opening, Reply, opened, replies}
@@ -33,7 +34,7 @@ use Rattle.listing.specs.SameOutput.{SameOutput}
 use Rattle.listing.proofs.AskedLaws.{TwoBytes, event-id, asked-calls, bytes-plan}
 
 abbrev zeros : List ℕ
-zeros = replicate 32768 0
+zeros = replicate shortestArea 0
 
 -- ---- on an area, the events' text is the lines of the replies to what they ask for
 
@@ -55,7 +56,8 @@ one : (e : Event) (bound : ℕ) (input : List ℕ) (at rx : ℕ) (a : List ℕ) 
     → ((next : ℕ) (a′ : List ℕ) → area.textIn bound input next rx a′ ≡ written a′ (askedIn bound input next rx))
     → area.eventText e input at rx a ++ area.textIn bound input (area.eventNext e input at) rx (area.eventArea e input at rx a)
     ≡ written a (askedBy e input at rx (askedIn bound input (at + eventSize e) rx))
-unfolding area.eventText area.eventNext area.eventArea area.receivedText area.tickedText area.takenText askedBy eventSize answerIn areaAfter answerLine repliesIn linesOf TwoBytes pick
+unfolding area.eventText area.eventNext area.eventArea area.receivedText area.tickedText area.takenText askedBy eventSize answerIn areaAfter
+    answerLine repliesIn linesOf TwoBytes pick
 one (Reception node id size) bound input at rx a two rest =
     let same : id % 65536 ≡ id = omega arith in
     rw same (called (reception node id (payloadAt input at)) a _ (askedIn bound input (at + 13) rx) (rest (at + 13) _))
@@ -73,7 +75,7 @@ events-text (suc bound) input at rx a b =
 
 -- ---- the plan's line before them
 
-opens-same : (v : Verdict) → openedAnswer v 32768 ≡ openAnswer 32768 v
+opens-same : (v : Verdict) → openedAnswer v shortestArea ≡ openAnswer shortestArea v
 unfolding openedAnswer openAnswer
 opens-same (Good nodes tx rx) = refl
 opens-same (Refused reason number) = refl
@@ -93,7 +95,7 @@ not-open m = omega (arith, m .first)
 
 agrees : (steps : List Step) → Each OfBytes steps → repliesIn zeros steps ≡ told steps
 agrees steps h =
-    as-the-model .unopened zeros not-open steps h .replies ∙ ap (λ (n : ℕ). replies (theModel n) closed steps) (length-replicate {A = ℕ} 32768 0)
+    as-the-model .unopened zeros not-open steps h .replies ∙ ap (λ (n : ℕ). replies (theModel n) closed steps) (length-replicate {A = ℕ} shortestArea 0)
 
 asked-bytes : (o : Opened) (input : List ℕ) (end : ℕ) → Each OfBytes (askedOf o input end .steps)
 unfolding askedOf askedFrom Each
@@ -102,18 +104,18 @@ asked-bytes (ofOpening.Refused why number) input end = tt
 
 -- the replies on zeros to an opening and what follows
 opened-first : (plan : List ℕ) (steps : List Step) → repliesIn zeros (opening plan ∷ steps)
-    ≡ opened (openedAnswer (checkPlan plan) 32768) ∷ repliesIn (openedArea (openedAnswer (checkPlan plan) 32768) plan zeros) steps
+    ≡ opened (openedAnswer (checkPlan plan) shortestArea) ∷ repliesIn (openedArea (openedAnswer (checkPlan plan) shortestArea) plan zeros) steps
 unfolding repliesIn replyIn stepped
 opened-first plan steps =
     ap (λ (n : ℕ). opened (openedAnswer (checkPlan plan) n) ∷ repliesIn (openedArea (openedAnswer (checkPlan plan) n) plan zeros) steps)
-    (length-replicate {A = ℕ} 32768 0)
+    (length-replicate {A = ℕ} shortestArea 0)
 
 by-front : (f : Front) (input : List ℕ) → Bytes input → area.frontText f input ≡ frontText f input
 unfolding area.frontText area.planText frontText textOf theModel Each OfBytes
 by-front front.Bad input b = refl
 by-front (front.Plan end) input b =
     let plan = planOf input end in
-    let o = openedAnswer (checkPlan plan) 32768 in
+    let o = openedAnswer (checkPlan plan) shortestArea in
     let asked = askedOf o input end in
     planned o input end (openedArea o plan zeros) b
     ∙ ap (λ (rs : List Reply). linesOf rs ++ pick (asked .bad) badLine [])

@@ -2,7 +2,7 @@
 use Prim.Native.Nat.{ℕ}
 use mathlib.Core.Path.{_≡_}
 use mathlib.Core.List.{List, [], _∷_, _++_}
-use Rattle.facts.specs.Cases.{listing}
+use Rattle.facts.specs.PlanCases.{listing}
 use Rattle.text.specs.Text.{ascii}
 use Rattle.listing.specs.Output.{modelOutput}
 

@@ -1,4 +1,4 @@
--- Two gateways that meet the rules of a reception answer it alike and leave one state. Assumes nothing.
+-- Two gateways that meet the rules of a reception answer it alike and leave one state.
 use mathlib.Core.Path.{_≡_, refl, sym, ap, _∙_}
 use mathlib.Core.Logic.{_⊎_, inl, inr}
 use mathlib.Core.Bool.{Bool, true, false, true≢false}
@@ -26,7 +26,9 @@ module _ (p : Plan) (payload : List ℕ) where
   dec-differs c from size s = go (differs (p .order) payload from size (keptOf s (c .tx)) (c .at)) refl
     where
       go : (b : Bool) → differs (p .order) payload from size (keptOf s (c .tx)) (c .at) ≡ b → Dec (Differs p payload c from size s)
-      go true e = let w = differs-exactly (p .order) payload from (keptOf s (c .tx)) (c .at) size .0 e in yes (record { bit = w .0; below = w .1; differs = w .2 })
+      go true e =
+          let w = differs-exactly (p .order) payload from (keptOf s (c .tx)) (c .at) size .0 e in
+          yes (record { bit = w .0; below = w .1; differs = w .2 })
       go false e = no (λ w. true≢false (sym (differs-exactly (p .order) payload from (keptOf s (c .tx)) (c .at) size .1 (w .bit, w .below, w .differs)) ∙ e))
 
   pub dec-wanted : (c : Claim) (from size : ℕ) (s : State) → Dec (Wanted p payload c from size s)

@@ -1,4 +1,4 @@
--- Two gateways that meet the rules of takes, fullness and ticks answer them alike and leave one state. Assumes nothing.
+-- Two gateways that meet the rules of takes, fullness and ticks answer them alike and leave one state.
 use mathlib.Core.Path.{_≡_, refl, sym, ap, _∙_}
 use mathlib.Core.Logic.{_⊎_, inl, inr, ⊎-elim}
 use mathlib.Core.List.{List, [], _∷_, _++_}
@@ -101,7 +101,10 @@ module _ (p : Plan) (g h : Running) (s : State) (shape : Shape p s) where
       let u = a .shape in
       let v = b .shape in
       state-same x y (a .number ∙ sym (b .number))
-      (payloads p x y u v (λ t i l m. let k = a .kept t i l m in let j = b .kept t i l m in bit-same _ _ (bitAt-lt _ _ _) (bitAt-lt _ _ _) (k .0) (k .1) (j .0) (j .1)))
+      (payloads p x y u v (λ t i l m.
+      let k = a .kept t i l m in
+      let j = b .kept t i l m in
+      bit-same _ _ (bitAt-lt _ _ _) (bitAt-lt _ _ _) (k .0) (k .1) (j .0) (j .1)))
       (ext-getD 0 _ _ (u .txTimers ∙ sym (v .txTimers))
       (λ t l. let m : t < length (p .tx) = omega (arith, u .txTimers) in falls-same (ℕ-discrete _ _) (a .txTimers t m) (b .txTimers t m)))
       (ext-getD 0 _ _ (u .rxTimers ∙ sym (v .rxTimers))

@@ -1,4 +1,4 @@
--- Two gateways that meet the rules of the calls on an open plan answer each call alike and leave one state. Assumes nothing.
+-- Two gateways that meet the rules of the calls on an open plan answer each call alike and leave one state.
 use Prim.Native.Nat.{_-_}
 use Rattle.model.specs.Plan.{Plan}
 use Rattle.model.specs.State.{State}

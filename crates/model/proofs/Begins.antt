@@ -1,4 +1,4 @@
--- The state in which the model begins is the one that document 01 states. Assumes nothing.
+-- The state in which the model begins is the one that document 01 states.
 use mathlib.Core.Path.{_≡_, refl, sym, ap, _∙_}
 use mathlib.Core.List.{List, [], _∷_}
 use Prim.Native.Nat.{ℕ, zero, suc, _<_}
@@ -6,7 +6,8 @@ use native.Mathlib.Omega.{arith}
 use lib.ListN.{length, getD, length-replicate, getD-replicate}
 use lib.Seq.{ext-getD}
 use Rattle.plan.specs.Rows.{noRow}
-use Rattle.records.specs.Records.{eightBytes, noTx}
+use Rattle.records.specs.Views.{noTx}
+use Rattle.records.specs.Records.{eightBytes}
 use Rattle.model.specs.Plan.{Plan, txIn}
 use Rattle.model.specs.State.{State}
 use Rattle.model.specs.Opening.{mapped, begun}

@@ -1,4 +1,4 @@
--- Over any openings and calls, any two gateways that meet the rules are one. Assumes nothing.
+-- Over any openings and calls, any two gateways that meet the rules are one.
 use mathlib.Core.Path.{_≡_, refl, sym, ap, _∙_}
 use mathlib.Core.List.{List, [], _∷_}
 use Prim.Native.Nat.{ℕ, _≤_}
@@ -12,13 +12,15 @@ use Rattle.plan.specs.declared.verdict.Verdict.{Verdict}
 use Rattle.plan.specs.declared.verdict.Verdict.the-variants as verdict
 use Rattle.plan.specs.Check.{checkPlan}
 use Rattle.plan.specs.Refusals.{numberOf}
+use Rattle.plan.specs.Shortest.{shortestArea}
 use Rattle.facts.specs.Good.{Each}
 use Rattle.refusals.specs.Table.{Unrefused}
 use Rattle.refusals.proofs.Exactly.{refused-exactly, good-unrefused}
 use Rattle.answers.specs.declared.Refusal.the-variants.{Plan as BadPlan}
 use Rattle.answers.specs.declared.Opened.the-variants.{Refused}
 use Rattle.model.specs.Plan.{said}
-use Rattle.model.specs.Calls.{Call, reception, tick, take, fullness, World, closed, holding, Gateway, Step, opening, call, opened, answered, replyOf, worldAfter, replies, after}
+use Rattle.model.specs.Calls.{Call, reception, tick, take, fullness, World, closed, holding, Gateway, Step}
+use Rattle.model.specs.Calls.{opening, call, opened, answered, replyOf, worldAfter, replies, after}
 use Rattle.model.specs.Words.{Shape}
 use Rattle.model.specs.OpeningRules.{Opens, RefusedOpening, Numbered, Closed, OpeningRules}
 use Rattle.model.specs.Rules.{inside, Meets, OfBytes, Same, RulesDecide}
@@ -89,14 +91,14 @@ module _ (room : ℕ) (g h : Gateway) (a : Meets room g) (b : Meets room h) wher
         y : OpeningRules room h w plan
         y = b .opening w plan bytes
 
-        fits : Unrefused plan → Dec (32768 ≤ room) → Steps g h w (opening plan)
+        fits : Unrefused plan → Dec (shortestArea ≤ room) → Steps g h w (opening plan)
         fits u (yes l) = opens u (x .good u l) (y .good u l)
         fits u (no l) = refused (x .short u (omega arith)) (y .short u (omega arith)) refl
 
         go : (v : Verdict) → checkPlan plan ≡ v → Steps g h w (opening plan)
         go (verdict.Refused reason at) e =
             let r = refused-exactly plan (numberOf reason) at .1 (reason, e, refl) in bad (x .bad _ _ r) (y .bad _ _ r)
-        go (verdict.Good n t r) e = fits (good-unrefused plan n t r e) (decLe 32768 room)
+        go (verdict.Good n t r) e = fits (good-unrefused plan n t r e) (decLe shortestArea room)
 
   -- ---- a call
 

@@ -1,4 +1,4 @@
--- What a tick answers, and what it takes off a timer. Assumes nothing.
+-- What a tick answers, and what it takes off a timer.
 use mathlib.Core.Path.{_≡_, refl, sym, subst, ap, _∙_}
 use mathlib.Core.Logic.{_≢_}
 use mathlib.Core.List.{List, []}

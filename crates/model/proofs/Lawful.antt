@@ -1,10 +1,10 @@
--- What the rules use of a plan's frames and rows, and that a good plan has it. Assumes nothing.
+-- What the rules use of a plan's frames and rows, and that a good plan has it.
 use mathlib.Core.Path.{_≡_, refl}
 use mathlib.Core.List.{List, [], _∷_}
 use Prim.Native.Nat.{ℕ, zero, suc, _+_, _≤_, _<_}
 use native.Mathlib.Omega.{arith}
 use lib.ListN.{length, getD}
-use Rattle.records.specs.Records.{noTx}
+use Rattle.records.specs.Views.{noTx}
 use Rattle.plan.specs.Progress.{keyOf}
 use Rattle.plan.specs.Rows.{widthOf, Row, rowsOf, claimsOf, txOf, noRow}
 use Rattle.facts.specs.Good.{Each, Rising, GoodPlan}

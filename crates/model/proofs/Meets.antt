@@ -1,4 +1,4 @@
--- The model meets all rules. Assumes nothing.
+-- The model meets all rules.
 use mathlib.Core.Path.{_≡_, refl}
 use mathlib.Core.List.{List}
 use Prim.Native.Nat.{ℕ}
@@ -8,6 +8,7 @@ use Rattle.base.specs.Pick.{pick}
 use Rattle.records.specs.Records.{records}
 use Rattle.plan.specs.declared.verdict.Verdict.the-variants.{Good}
 use Rattle.plan.specs.Check.{checkPlan}
+use Rattle.plan.specs.Shortest.{shortestArea}
 use Rattle.facts.specs.Good.{countOf, GoodPlan}
 use Rattle.facts.proofs.GoodFacts.{good-facts}
 use Rattle.refusals.specs.Table.{Unrefused}
@@ -41,11 +42,11 @@ meets-opening room w plan b =
           let y = refused-exactly plan number at .0 x in
           record { reason = y .0; numbered = y .2; refused = record { answer = rw (y .1); stays = rw (y .1) } };
       short =
-          λ u l. let e = good-checked plan u in let k = lt-leb 32768 room l in record { answer = rw (e, k); stays = rw (e, k) };
+          λ u l. let e = good-checked plan u in let k = lt-leb shortestArea room l in record { answer = rw (e, k); stays = rw (e, k) };
       good =
           λ u l.
           let e = good-checked plan u in
-          let k = le-leb 32768 room l in
+          let k = le-leb shortestArea room l in
           record { answer = rw (e, k); state = begun (said plan); begins = rw (e, k); initial = begins (said plan) (plan-payload plan b) };
     }
 

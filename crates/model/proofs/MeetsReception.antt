@@ -1,4 +1,4 @@
--- The model meets the rules of a reception. Assumes nothing.
+-- The model meets the rules of a reception.
 use mathlib.Core.Path.{_≡_, refl, sym, ap, _∙_}
 use mathlib.Core.Logic.{_≢_, _⊎_, inl, inr, ⊎-elim}
 use mathlib.Core.Bool.{Bool, true, false, true≢false}
@@ -277,7 +277,8 @@ module _ (p : Plan) (lawful : Lawful p) where
           quiet = λ d. absurd (not-failure f g e d);
         }
       where
-        back : (from size : ℕ) → copy from size ≡ copy f g → c .at + g ≤ 64 → (c .at + size ≤ 64 → Copies p payload c from size s (putBy p s payload c (copy from size)))
+        back : (from size : ℕ) → copy from size ≡ copy f g → c .at + g ≤ 64
+            → (c .at + size ≤ 64 → Copies p payload c from size s (putBy p s payload c (copy from size)))
             → Copies p payload c from size s (putBy p s payload c (copy f g))
         back from size d m k = rw (← d) (k (let q : size ≡ g = ap widthOf d in omega arith))
 

@@ -1,4 +1,4 @@
--- The model's Rx timers in a tick: what the first n turns leave. Assumes nothing.
+-- The model's Rx timers in a tick: what the first n turns leave.
 use mathlib.Core.Path.{_≡_, refl, sym, ap, _∙_}
 use mathlib.Core.Logic.{_≢_, _⊎_, inl, inr, ⊎-elim, _↔_}
 use mathlib.Core.List.{List, [], _∷_}
@@ -192,7 +192,14 @@ module _ (p : Plan) (lawful : Lawful p) (s : State) (shape : Shape p s) (y : Sta
     turned : {P : ℕ → ℕ → Type 0} (v w : ℕ) (z : State) → Sets p P x z → v ≡ rxAfter n → w ≡ longAfter n
         → ((t b : ℕ) → P t b → FailsBelow (suc n) t b) → ((t b : ℕ) → (f : Fails p s t b) → f .row ≡ n → P t b)
         → RxDone (suc n)
-        (record { number = x .number; kept = z .kept; txTimers = x .txTimers; rxTimers = set (x .rxTimers) n v; longs = set (x .longs) n w; queues = x .queues })
+        (record {
+          number = x .number;
+          kept = z .kept;
+          txTimers = x .txTimers;
+          rxTimers = set (x .rxTimers) n v;
+          longs = set (x .longs) n w;
+          queues = x .queues;
+        })
     turned {P} v w z a e f g h =
         record {
           held = record { kept = a .shape .kept; payload = a .shape .payload };
@@ -210,7 +217,9 @@ module _ (p : Plan) (lawful : Lawful p) (s : State) (shape : Shape p s) (y : Sta
               let u = d .bits t b i j in
               let k = a .bits t b i j in (
                 (λ q. ⊎-elim (λ q. ⊎-elim (λ q. inl q) (λ m. inr (m .0, omega (arith, m .1))) (u .0 q)) (λ q. inr (g t b q)) (k .0 q)),
-                (λ q. ⊎-elim (λ q. k .1 (inl (u .1 (inl q)))) (λ m. fails t b (m .0) (m .1) (ℕ-discrete (m .0 .row) n) (λ c. k .1 (inl (u .1 (inr (m .0, c))))) (λ c. k .1 (inr c))) q),
+                (λ q.
+                    ⊎-elim (λ q. k .1 (inl (u .1 (inl q))))
+                    (λ m. fails t b (m .0) (m .1) (ℕ-discrete (m .0 .row) n) (λ c. k .1 (inl (u .1 (inr (m .0, c))))) (λ c. k .1 (inr c))) q),
               );
         }
       where
@@ -262,7 +271,16 @@ module _ (p : Plan) (lawful : Lawful p) (s : State) (shape : Shape p s) (y : Sta
         let f = eq-eqb period 0 e in
         let low : State = rxLowered p x n in
         let a = sets-failed p (rowIn p n .claims) low (record { kept = d .held .kept; payload = d .held .payload }) (lawful .frame n l) (lawful .bits n l) in
-        let b : Sets p (Names p (rowIn p n .claims)) x (record { number = x .number; kept = failed p low (rowIn p n .claims) .kept; txTimers = x .txTimers; rxTimers = x .rxTimers; longs = x .longs; queues = x .queues }) =
+        let b :
+        Sets p (Names p (rowIn p n .claims)) x
+        (record {
+          number = x .number;
+          kept = failed p low (rowIn p n .claims) .kept;
+          txTimers = x .txTimers;
+          rxTimers = x .rxTimers;
+          longs = x .longs;
+          queues = x .queues;
+        }) =
         record {
           shape = record { kept = a .shape .kept; payload = a .shape .payload };
           number = refl;

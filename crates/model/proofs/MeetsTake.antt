@@ -1,4 +1,4 @@
--- The model meets the rules of take and fullness. Assumes nothing.
+-- The model meets the rules of take and fullness.
 use mathlib.Core.Path.{_≡_, refl}
 use mathlib.Core.Logic.{inl, inr, ⊎-elim}
 use mathlib.Core.Bool.{Bool, true, false, false≢true}

@@ -1,4 +1,4 @@
--- The model meets the rules of a tick. Assumes nothing.
+-- The model meets the rules of a tick.
 use mathlib.Core.Path.{_≡_, refl, sym, ap, _∙_}
 use mathlib.Core.Logic.{inl, inr, ⊎-elim}
 use mathlib.Core.Bool.{Bool, true, false, not, false≢true, true≢false}

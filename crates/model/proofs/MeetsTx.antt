@@ -1,4 +1,4 @@
--- The model's Tx timers in a tick: what the first n turns leave. Assumes nothing.
+-- The model's Tx timers in a tick: what the first n turns leave.
 use mathlib.Core.Path.{_≡_, refl, sym, ap, _∙_}
 use mathlib.Core.Logic.{_≢_, ⊎-elim}
 use mathlib.Core.Bool.{Bool, true, false, not, true≢false}

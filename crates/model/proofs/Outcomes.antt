@@ -1,4 +1,4 @@
--- What a call can come to, of any gateway that meets the rules: it leaves the state, or it does its work. Assumes nothing.
+-- What a call can come to, of any gateway that meets the rules: it leaves the state, or it does its work.
 use mathlib.Core.Path.{_≡_, refl, ap, _∙_}
 use mathlib.Core.Logic.{_⊎_, inl, inr, ⊎-elim}
 use mathlib.Core.List.{List, [], _∷_}

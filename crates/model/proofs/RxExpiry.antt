@@ -1,4 +1,4 @@
--- An Rx timer loaded with v expires at its v-th handling: each call takes its handlings off what the timer holds. Assumes nothing.
+-- An Rx timer loaded with v expires at its v-th handling: each call takes its handlings off what the timer holds.
 use mathlib.Core.Path.{_≡_, sym, ap, _∙_}
 use mathlib.Core.Logic.{_≢_, _⊎_, inl, inr, ⊎-elim}
 use mathlib.Core.List.{List, [], _∷_}

@@ -1,4 +1,4 @@
--- A Tx timer loaded with v expires at its v-th handling: each call takes its handlings off what the timer holds. Assumes nothing.
+-- A Tx timer loaded with v expires at its v-th handling: each call takes its handlings off what the timer holds.
 use mathlib.Core.Path.{_≡_, refl, sym, ap, _∙_}
 use mathlib.Core.Logic.{_⊎_, inl, inr, ⊎-elim}
 use mathlib.Core.List.{List, [], _∷_}

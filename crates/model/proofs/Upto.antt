@@ -1,4 +1,4 @@
--- The numbers below a bound that pass a test, in number order. Assumes nothing.
+-- The numbers below a bound that pass a test, in number order.
 use mathlib.Core.Path.{_≡_, refl}
 use mathlib.Core.Logic.{_⊎_, inl, inr, ⊎-elim}
 use mathlib.Core.Bool.{Bool, true, false≢true}

@@ -1,4 +1,4 @@
--- Laws of the words that the rules use. Assumes nothing.
+-- Laws of the words that the rules use.
 use mathlib.Core.Path.{_≡_, refl, sym, _∙_}
 use mathlib.Core.Logic.{_⊎_, inl, inr, ⊎-elim}
 use mathlib.Core.List.{List, [], _∷_}

@@ -8,6 +8,7 @@ use Rattle.base.specs.Pick.{pick}
 use Rattle.records.specs.Records.{eightBytes}
 use Rattle.plan.specs.declared.verdict.Verdict.{Verdict}
 use Rattle.plan.specs.declared.verdict.Verdict.the-variants as verdict
+use Rattle.plan.specs.Shortest.{shortestArea}
 use Rattle.answers.specs.declared.Refusal.the-variants.{Plan as BadPlan, ShortArea}
 use Rattle.answers.specs.declared.Opened.{Opened}
 use Rattle.answers.specs.declared.Opened.the-variants.{Open, Refused}
@@ -32,5 +33,5 @@ begun p =
 -- 1 to 9 by the check; then 10: "the plan is good and the area is shorter than 32,768 bytes". "Refusal 10 carries record number 0." The number is
 -- the area's length.
 unfoldable pub openAnswer : ℕ → Verdict → Opened
-openAnswer room (verdict.Good nodes tx rx) = pick (leb 32768 room) (Open nodes tx rx) (Refused ShortArea 0)
+openAnswer room (verdict.Good nodes tx rx) = pick (leb shortestArea room) (Open nodes tx rx) (Refused ShortArea 0)
 openAnswer room (verdict.Refused reason number) = Refused (BadPlan reason) number

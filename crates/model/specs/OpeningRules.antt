@@ -6,6 +6,7 @@ use lib.ListN.{length, getD}
 use Rattle.records.specs.Records.{records, eightBytes}
 use Rattle.plan.specs.declared.verdict.Reason.{Reason}
 use Rattle.plan.specs.Refusals.{numberOf}
+use Rattle.plan.specs.Shortest.{shortestArea}
 use Rattle.facts.specs.Good.{countOf}
 use Rattle.refusals.specs.Table.{Refuses, Unrefused}
 use Rattle.answers.specs.declared.Refusal.the-variants.{Plan as BadPlan, ShortArea, NotOpen}
@@ -52,8 +53,8 @@ pub record Numbered (g : Gateway) (w : World) (plan : List ℕ) (number at : ℕ
 pub record OpeningRules (room : ℕ) (g : Gateway) (w : World) (plan : List ℕ) : Type 0 where
   pub bad : (number at : ℕ) → Refuses plan number at → Numbered g w plan number at
   -- 10: "the plan is good and the area is shorter than 32,768 bytes"; "Refusal 10 carries record number 0."
-  pub short : Unrefused plan → room < 32768 → RefusedOpening g w plan (Refused ShortArea 0)
-  pub good : Unrefused plan → 32768 ≤ room → Opens g w plan
+  pub short : Unrefused plan → room < shortestArea → RefusedOpening g w plan (Refused ShortArea 0)
+  pub good : Unrefused plan → shortestArea ≤ room → Opens g w plan
 
 -- ---- 11: "in a call, the area .. does not begin with hex 47 57"
 

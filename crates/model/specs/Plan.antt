@@ -3,7 +3,8 @@ use Prim.Native.Nat.{ℕ}
 use mathlib.Core.List.{List}
 use lib.ListN.{getD}
 use Rattle.records.specs.declared.record.TxFrame.{TxFrame}
-use Rattle.records.specs.Records.{records, noTx}
+use Rattle.records.specs.Views.{noTx}
+use Rattle.records.specs.Records.{records}
 use Rattle.plan.specs.Rows.{Row, noRow, rowsOf, txOf, nodesIn, orderIn}
 
 pub record Plan : Type 0 where

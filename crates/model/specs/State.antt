@@ -27,10 +27,12 @@ abbrev pub withKept : State → ℕ → List ℕ → State
 withKept s t v = record { number = s .number; kept = set (s .kept) t v; txTimers = s .txTimers; rxTimers = s .rxTimers; longs = s .longs; queues = s .queues }
 
 abbrev pub withTxTimer : State → ℕ → ℕ → State
-withTxTimer s t v = record { number = s .number; kept = s .kept; txTimers = set (s .txTimers) t v; rxTimers = s .rxTimers; longs = s .longs; queues = s .queues }
+withTxTimer s t v =
+    record { number = s .number; kept = s .kept; txTimers = set (s .txTimers) t v; rxTimers = s .rxTimers; longs = s .longs; queues = s .queues }
 
 abbrev pub withRxTimer : State → ℕ → ℕ → State
-withRxTimer s r v = record { number = s .number; kept = s .kept; txTimers = s .txTimers; rxTimers = set (s .rxTimers) r v; longs = s .longs; queues = s .queues }
+withRxTimer s r v =
+    record { number = s .number; kept = s .kept; txTimers = s .txTimers; rxTimers = set (s .rxTimers) r v; longs = s .longs; queues = s .queues }
 
 abbrev pub withLong : State → ℕ → ℕ → State
 withLong s r v = record { number = s .number; kept = s .kept; txTimers = s .txTimers; rxTimers = s .rxTimers; longs = set (s .longs) r v; queues = s .queues }

@@ -1,4 +1,4 @@
--- Two areas that are alike in their first 32,768 bytes stay so, whatever is stored in both. Assumes nothing.
+-- Two areas that are alike, but for what is past them, stay so, whatever is stored in both.
 use mathlib.Core.Path.{_≡_, refl, sym, _∙_}
 use mathlib.Core.Bool.{Bool, true, false}
 use mathlib.Core.List.{List, [], _∷_}
@@ -14,16 +14,17 @@ use Rattle.records.specs.declared.record.Eight.{Eight}
 use Rattle.records.specs.declared.record.TxFrame.{TxFrame}
 use Rattle.records.specs.declared.record.RxFrame.{RxFrame}
 use Rattle.records.specs.declared.record.Record.{Record}
-use Rattle.records.specs.declared.record.Record.the-variants.{Head, Node, Tx, Rx, Signal, Destination, BadKind, Cut, End}
-use Rattle.area.specs.Layout.{node, queue}
-use Rattle.opening.specs.Opened.{withTxTimer, withPayload, withFrame, withTx, withRxTimer, withRow, withNodeRow, withRx, withRecord, withRecords, ringsBefore, withRings, withFullness}
+use Rattle.records.specs.declared.record.Record.the-variants.{Head, Node, Tx, Rx, Signal, Destination, Broken}
+use Rattle.area.specs.Layout.{areaLength, orderByte, nodeCountByte, txCountBytes, rxCountBytes, LongEnough, node, queue}
+use Rattle.opening.specs.Opened.{withTxTimer, withPayload, withFrame, withTx, withRxTimer, withRow, withNodeRow, withRx, withRecord}
+use Rattle.opening.specs.Opened.{withRecords, ringsBefore, withRings, withFullness}
 
 pub record Alike (a b : List ℕ) : Type 0 where
-  pub first : 32768 ≤ length a
-  pub second : 32768 ≤ length b
-  pub at : (j : ℕ) → j < 32768 → byteAt a j ≡ byteAt b j
+  pub first : LongEnough a
+  pub second : LongEnough b
+  pub at : (j : ℕ) → j < areaLength → byteAt a j ≡ byteAt b j
 
-alike-twoAt : {a b : List ℕ} → Alike a b → (k : ℕ) → k + 1 < 32768 → twoAt a k ≡ twoAt b k
+alike-twoAt : {a b : List ℕ} → Alike a b → (k : ℕ) → k + 1 < areaLength → twoAt a k ≡ twoAt b k
 alike-twoAt s k h = rw (s .at k (omega arith), s .at (k + 1) h)
 
 pub alike-set : {a b : List ℕ} (i : ℕ) {v w : ℕ} → v ≡ w → Alike a b → Alike (set a i v) (set b i w)
@@ -33,7 +34,7 @@ alike-set {a} {b} i {v} {w} e s = record {
   at = λ j h. go j h (eqb j i) refl;
 }
   where
-    go : (j : ℕ) → j < 32768 → (t : Bool) → eqb j i ≡ t → byteAt (set a i v) j ≡ byteAt (set b i w) j
+    go : (j : ℕ) → j < areaLength → (t : Bool) → eqb j i ≡ t → byteAt (set a i v) j ≡ byteAt (set b i w) j
     go j h true t =
         let is = eqb-true j i t in
         rw (is, getD-set-same a i v 0 (omega (arith, s .first)), getD-set-same b i w 0 (omega (arith, s .second))) e
@@ -66,8 +67,8 @@ alike-frame n h s = alike-setTwo _ (rw (alike-twoAt s (queue n + 2) (omega arith
 alike-tx : (at : ℕ) (x : TxFrame) {a b : List ℕ} → Alike a b → Alike (withTx at x a) (withTx at x b)
 unfolding withTx
 alike-tx at x s =
-    rw (alike-twoAt s 8 (omega arith))
-    (alike-setTwo 8 refl
+    rw (alike-twoAt s txCountBytes (omega arith))
+    (alike-setTwo txCountBytes refl
     (alike-frame (x .node % 16) (omega arith) (alike-payload _ (x .payload) (alike-tx-timer _ x (alike-setTwo _ refl s)))))
 
 alike-rx-timer : (r : ℕ) (x : RxFrame) {a b : List ℕ} → Alike a b → Alike (withRxTimer r x a) (withRxTimer r x b)
@@ -86,20 +87,18 @@ alike-node-row n r h s =
 alike-rx : (at : ℕ) (x : RxFrame) {a b : List ℕ} → Alike a b → Alike (withRx at x a) (withRx at x b)
 unfolding withRx
 alike-rx at x s =
-    rw (alike-twoAt s 10 (omega arith))
-    (alike-setTwo 10 refl (alike-node-row (x .node % 16) _ (omega arith) (alike-row _ at x (alike-rx-timer _ x s))))
+    rw (alike-twoAt s rxCountBytes (omega arith))
+    (alike-setTwo rxCountBytes refl (alike-node-row (x .node % 16) _ (omega arith) (alike-row _ at x (alike-rx-timer _ x s))))
 
 alike-record : (at : ℕ) (r : Record) {a b : List ℕ} → Alike a b → Alike (withRecord at r a) (withRecord at r b)
 unfolding withRecord
-alike-record at (Head order) s = alike-set 3 refl s
-alike-record at (Node type) s = alike-set 6 (rw (s .at 6 (omega arith))) s
+alike-record at (Head order) s = alike-set orderByte refl s
+alike-record at (Node body) s = alike-set nodeCountByte (rw (s .at nodeCountByte (omega arith))) s
 alike-record at (Tx x) s = alike-tx at x s
 alike-record at (Rx x) s = alike-rx at x s
-alike-record at (Signal p q) s = s
-alike-record at (Destination t q) s = s
-alike-record at BadKind s = s
-alike-record at (Cut kind) s = s
-alike-record at End s = s
+alike-record at (Signal body) s = s
+alike-record at (Destination body) s = s
+alike-record at (Broken fault) s = s
 
 pub alike-records : (at : ℕ) (rs : List Record) {a b : List ℕ} → Alike a b → Alike (withRecords at rs a) (withRecords at rs b)
 unfolding withRecords

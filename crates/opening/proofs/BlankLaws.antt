@@ -1,4 +1,4 @@
--- The bytes of a blank area: zero, but for the mark, the plan's length and the plan. Assumes nothing.
+-- The bytes of a blank area: zero, but for the mark, the plan's length and the plan.
 use mathlib.Core.Path.{_≡_, refl, sym, _∙_}
 use mathlib.Core.Logic.{⊎-elim}
 use mathlib.Core.List.{List}
@@ -8,6 +8,7 @@ use native.Mathlib.Omega.{arith}
 use lib.ListN.{length, getD, set, length-set}
 use lib.Seq.{getD-set-same, getD-set-other}
 use Rattle.base.specs.Numbers.{byteAt, twoAt, setTwo}
+use Rattle.area.specs.Layout.{areaLength, counterByte, planLengthBytes, planStart, planRoom, LongEnough}
 use Rattle.opening.specs.Opened.{cleared, laid, blank}
 use Rattle.opening.proofs.Alike.{Alike, alike-set, alike-setTwo}
 use Rattle.opening.proofs.Kept.{Same, same, same-set, same-two, same-then, same-cleared, same-laid, cleared-length, laid-length}
@@ -29,68 +30,72 @@ cleared-at (suc n) a j l h =
     (λ (k : j < n). getD-set-other (cleared n a) n j 0 0 (λ e. omega arith) ∙ cleared-at n a j (omega arith) k)
     (eq-or-lt-of-le (omega arith))
 
-laid-at : (plan : List ℕ) (n : ℕ) (a : List ℕ) (i : ℕ) → 8960 + n ≤ length a → i < n → byteAt (laid plan n a) (8960 + i) ≡ byteAt plan i
+laid-at : (plan : List ℕ) (n : ℕ) (a : List ℕ) (i : ℕ) → planStart + n ≤ length a → i < n → byteAt (laid plan n a) (planStart + i) ≡ byteAt plan i
 unfolding laid
 laid-at plan zero a i l h = absurd (omega arith)
 laid-at plan (suc n) a i l h =
     let long = laid-length plan n a in
     ⊎-elim
-    (λ (e : i ≡ n). rw e (getD-set-same (laid plan n a) (8960 + n) (getD plan n 0) 0 (omega arith)))
-    (λ (k : i < n). getD-set-other (laid plan n a) (8960 + n) (8960 + i) (getD plan n 0) 0 (λ e. omega arith) ∙ laid-at plan n a i (omega arith) k)
+    (λ (e : i ≡ n). rw e (getD-set-same (laid plan n a) (planStart + n) (getD plan n 0) 0 (omega arith)))
+    (λ (k : i < n). getD-set-other (laid plan n a) (planStart + n) (planStart + i) (getD plan n 0) 0 (λ e. omega arith) ∙ laid-at plan n a i (omega arith) k)
     (eq-or-lt-of-le (omega arith))
 
 -- ---- the blank area
 
 module _ (plan a : List ℕ) where
   abbrev filled : List ℕ
-  filled = laid plan (length plan) (cleared 32768 a)
+  filled = laid plan (length plan) (cleared areaLength a)
 
   -- P: neither the mark nor the length
-  same-blank : (P : ℕ → Type 0) → (P 0 → ⊥) → (P 1 → ⊥) → (P 4 → ⊥) → (P 5 → ⊥) → Same P filled (blank plan a)
+  same-blank : (P : ℕ → Type 0) → (P 0 → ⊥) → (P 1 → ⊥) → (P planLengthBytes → ⊥) → (P (planLengthBytes + 1) → ⊥) → Same P filled (blank plan a)
   unfolding blank
   same-blank P first second high low = same-two P _ _ high low (same-set P _ _ second (same-set P _ _ first (same P _)))
 
   -- past its end the area stays
-  pub blank-same : (P : ℕ → Type 0) → length plan ≤ 23808 → ((j : ℕ) → j < 32768 → P j → ⊥) → Same P a (blank plan a)
+  pub blank-same : (P : ℕ → Type 0) → length plan ≤ planRoom → ((j : ℕ) → j < areaLength → P j → ⊥) → Same P a (blank plan a)
   blank-same P short never =
-      same-then P (same-cleared P 32768 a never)
-      (same-then P (same-laid P plan (length plan) _ (λ j h. never (8960 + j) (omega arith)))
-      (same-blank P (never 0 (omega arith)) (never 1 (omega arith)) (never 4 (omega arith)) (never 5 (omega arith))))
+      same-then P (same-cleared P areaLength a never)
+      (same-then P (same-laid P plan (length plan) _ (λ j h. never (planStart + j) (omega arith)))
+      (same-blank P (never 0 (omega arith)) (never 1 (omega arith)) (never planLengthBytes (omega arith)) (never (planLengthBytes + 1) (omega arith))))
 
   filled-length : length filled ≡ length a
-  filled-length = laid-length plan (length plan) (cleared 32768 a) ∙ cleared-length 32768 a
+  filled-length = laid-length plan (length plan) (cleared areaLength a) ∙ cleared-length areaLength a
 
   pub blank-length : length (blank plan a) ≡ length a
   blank-length = same-blank (λ j. ⊥) (λ p. p) (λ p. p) (λ p. p) (λ p. p) .len ∙ filled-length
 
-  module _ (room : 32768 ≤ length a) where
+  module _ (room : LongEnough a) where
     pub blank-mark : (byteAt (blank plan a) 0 ≡ 0x47) × (byteAt (blank plan a) 1 ≡ 0x57)
     unfolding blank
     blank-mark =
         let n = filled-length in
         let one = set filled 0 0x47 in
-        let s = same-two (λ j. j < 2) 4 (length plan) (λ p. omega arith) (λ p. omega arith) (same _ (set one 1 0x57)) in (
+        let s = same-two (λ j. j < counterByte) planLengthBytes (length plan) (λ p. omega arith) (λ p. omega arith) (same _ (set one 1 0x57)) in (
           s .at 0 (omega arith) ∙ getD-set-other one 1 0 0x57 0 (λ e. omega arith) ∙ getD-set-same filled 0 0x47 0 (omega arith),
           s .at 1 (omega arith) ∙ getD-set-same one 1 0x57 0 (simp length-set (omega arith)),
         )
 
-    pub blank-long : length plan ≤ 23808 → twoAt (blank plan a) 4 ≡ length plan
+    pub blank-long : length plan ≤ planRoom → twoAt (blank plan a) planLengthBytes ≡ length plan
     unfolding blank
-    blank-long short = let n = filled-length in two-set (set (set filled 0 0x47) 1 0x57) 4 (length plan) (simp length-set (omega arith)) (omega arith)
+    blank-long short =
+        let n = filled-length in
+        two-set (set (set filled 0 0x47) 1 0x57) planLengthBytes (length plan) (simp length-set (omega arith)) (omega arith)
 
     -- the tables, the counts and the counter are zero
-    pub blank-zero : (j : ℕ) → j < 8960 → (j ≡ 0 → ⊥) → (j ≡ 1 → ⊥) → (j ≡ 4 → ⊥) → (j ≡ 5 → ⊥) → byteAt (blank plan a) j ≡ 0
-    blank-zero j h n0 n1 n4 n5 =
+    pub blank-zero :
+        (j : ℕ) → j < planStart → (j ≡ 0 → ⊥) → (j ≡ 1 → ⊥) → (j ≡ planLengthBytes → ⊥) → (j ≡ planLengthBytes + 1 → ⊥)
+        → byteAt (blank plan a) j ≡ 0
+    blank-zero j h n0 n1 high low =
         let P : ℕ → Type 0 = λ i. i ≡ j in
-        same-blank P (λ e. n0 (sym e)) (λ e. n1 (sym e)) (λ e. n4 (sym e)) (λ e. n5 (sym e)) .at j refl
+        same-blank P (λ e. n0 (sym e)) (λ e. n1 (sym e)) (λ e. high (sym e)) (λ e. low (sym e)) .at j refl
         ∙ same-laid P plan (length plan) _ (λ i l e. omega arith) .at j refl
-        ∙ cleared-at 32768 a j room (omega arith)
+        ∙ cleared-at areaLength a j room (omega arith)
 
-    pub blank-plan : length plan ≤ 23808 → (i : ℕ) → i < length plan → byteAt (blank plan a) (8960 + i) ≡ byteAt plan i
+    pub blank-plan : length plan ≤ planRoom → (i : ℕ) → i < length plan → byteAt (blank plan a) (planStart + i) ≡ byteAt plan i
     blank-plan short i h =
-        let n = cleared-length 32768 a in
-        same-blank (λ j. 8960 ≤ j) (λ p. omega arith) (λ p. omega arith) (λ p. omega arith) (λ p. omega arith) .at (8960 + i) (omega arith)
-        ∙ laid-at plan (length plan) (cleared 32768 a) i (omega arith) h
+        let n = cleared-length areaLength a in
+        same-blank (λ j. planStart ≤ j) (λ p. omega arith) (λ p. omega arith) (λ p. omega arith) (λ p. omega arith) .at (planStart + i) (omega arith)
+        ∙ laid-at plan (length plan) (cleared areaLength a) i (omega arith) h
 
 -- a blank area is a function of the plan alone
 alike-laid : (plan : List ℕ) (n : ℕ) {a b : List ℕ} → Alike a b → Alike (laid plan n a) (laid plan n b)
@@ -98,15 +103,15 @@ unfolding laid
 alike-laid plan zero s = s
 alike-laid plan (suc n) s = alike-set _ refl (alike-laid plan n s)
 
-pub alike-blank : (plan a b : List ℕ) → 32768 ≤ length a → 32768 ≤ length b → Alike (blank plan a) (blank plan b)
+pub alike-blank : (plan a b : List ℕ) → LongEnough a → LongEnough b → Alike (blank plan a) (blank plan b)
 unfolding blank
 alike-blank plan a b first second =
-    alike-setTwo 4 refl
+    alike-setTwo planLengthBytes refl
     (alike-set 1 refl
     (alike-set 0 refl
     (alike-laid plan (length plan)
     (record {
-      first = omega (arith, cleared-length 32768 a);
-      second = omega (arith, cleared-length 32768 b);
-      at = λ j h. cleared-at 32768 a j first h ∙ sym (cleared-at 32768 b j second h);
+      first = omega (arith, cleared-length areaLength a);
+      second = omega (arith, cleared-length areaLength b);
+      at = λ j h. cleared-at areaLength a j first h ∙ sym (cleared-at areaLength b j second h);
     }))))

@@ -1,4 +1,4 @@
--- What the parts of an opening leave: the length, and each byte at a place of P. Assumes nothing.
+-- What the parts of an opening leave: the length, and each byte at a place of P.
 use mathlib.Core.Path.{_≡_, refl, _∙_}
 use mathlib.Core.List.{List, [], _∷_}
 use Prim.Native.Nat.{ℕ, zero, suc, _+_, _%_, _<_, _≤_}
@@ -12,9 +12,10 @@ use Rattle.records.specs.declared.record.Eight.{Eight}
 use Rattle.records.specs.declared.record.TxFrame.{TxFrame}
 use Rattle.records.specs.declared.record.RxFrame.{RxFrame}
 use Rattle.records.specs.declared.record.Record.{Record}
-use Rattle.records.specs.declared.record.Record.the-variants.{Head, Node, Tx, Rx, Signal, Destination, BadKind, Cut, End}
-use Rattle.area.specs.Layout.{queue}
-use Rattle.opening.specs.Opened.{cleared, laid, withTxTimer, withPayload, withFrame, withTx, withRxTimer, withRow, withNodeRow, withRx, withRecord, withRecords, ringsBefore, withRings, withFullness}
+use Rattle.records.specs.declared.record.Record.the-variants.{Head, Node, Tx, Rx, Signal, Destination, Broken}
+use Rattle.area.specs.Layout.{orderByte, nodeCountByte, txCountBytes, rxCountBytes, nodesStart, planStart, mostRoom, queue}
+use Rattle.opening.specs.Opened.{cleared, laid, withTxTimer, withPayload, withFrame, withTx, withRxTimer, withRow, withNodeRow}
+use Rattle.opening.specs.Opened.{withRx, withRecord, withRecords, ringsBefore, withRings, withFullness}
 
 pub record Same (P : ℕ → Type 0) (a b : List ℕ) : Type 0 where
   pub len : length b ≡ length a
@@ -41,7 +42,7 @@ module _ (P : ℕ → Type 0) where
   same-cleared zero a never = same a
   same-cleared (suc n) a never = same-set _ _ (never n (omega arith)) (same-cleared n a (λ j h. never j (omega arith)))
 
-  pub same-laid : (plan : List ℕ) (n : ℕ) (a : List ℕ) → ((j : ℕ) → j < n → P (8960 + j) → ⊥) → Same P a (laid plan n a)
+  pub same-laid : (plan : List ℕ) (n : ℕ) (a : List ℕ) → ((j : ℕ) → j < n → P (planStart + j) → ⊥) → Same P a (laid plan n a)
   unfolding laid
   same-laid plan zero a never = same a
   same-laid plan (suc n) a never = same-set _ _ (never n (omega arith)) (same-laid plan n a (λ j h. never j (omega arith)))
@@ -52,12 +53,12 @@ cleared-length n a = same-cleared (λ j. ⊥) n a (λ j h p. p) .len
 pub laid-length : (plan : List ℕ) (n : ℕ) (a : List ℕ) → length (laid plan n a) ≡ length a
 laid-length plan n a = same-laid (λ j. ⊥) plan n a (λ j h p. p) .len
 
--- P: no place of the tables, which stand from 16 to 8,959
-module _ (P : ℕ → Type 0) (tables : (j : ℕ) → 16 ≤ j → j < 8960 → P j → ⊥) where
-  put : {a b : List ℕ} (i v : ℕ) → 16 ≤ i → i < 8960 → Same P a b → Same P a (set b i v)
+-- P: no place of the tables, which stand from the nodes on to the plan
+module _ (P : ℕ → Type 0) (tables : (j : ℕ) → nodesStart ≤ j → j < planStart → P j → ⊥) where
+  put : {a b : List ℕ} (i v : ℕ) → nodesStart ≤ i → i < planStart → Same P a b → Same P a (set b i v)
   put i v low high s = same-set P _ _ (tables i low high) s
 
-  put-two : {a b : List ℕ} (i v : ℕ) → 16 ≤ i → i + 1 < 8960 → Same P a b → Same P a (setTwo b i v)
+  put-two : {a b : List ℕ} (i v : ℕ) → nodesStart ≤ i → i + 1 < planStart → Same P a b → Same P a (setTwo b i v)
   put-two i v low high s = same-two P _ _ (tables i low (omega arith)) (tables (i + 1) (omega arith) high) s
 
   same-tx-timer : (t : ℕ) (x : TxFrame) (a : List ℕ) → t < 256 → Same P a (withTxTimer t x a)
@@ -76,7 +77,7 @@ module _ (P : ℕ → Type 0) (tables : (j : ℕ) → 16 ≤ j → j < 8960 → 
   unfolding withFrame
   same-frame n a h = put-two _ _ (omega arith) (omega arith) (same P a)
 
-  pub same-tx : (at : ℕ) (x : TxFrame) (a : List ℕ) → (P 8 → ⊥) → (P 9 → ⊥) → Same P a (withTx at x a)
+  pub same-tx : (at : ℕ) (x : TxFrame) (a : List ℕ) → (P txCountBytes → ⊥) → (P (txCountBytes + 1) → ⊥) → Same P a (withTx at x a)
   unfolding withTx
   same-tx at x a high low =
       same-two P _ _ high low
@@ -101,7 +102,7 @@ module _ (P : ℕ → Type 0) (tables : (j : ℕ) → 16 ≤ j → j < 8960 → 
       put-two _ _ (omega arith) (omega arith)
       (both (Same P a) _ _ _ (put-two _ _ (omega arith) (omega arith) (same P a)) (same P a))
 
-  pub same-rx : (at : ℕ) (x : RxFrame) (a : List ℕ) → (P 10 → ⊥) → (P 11 → ⊥) → Same P a (withRx at x a)
+  pub same-rx : (at : ℕ) (x : RxFrame) (a : List ℕ) → (P rxCountBytes → ⊥) → (P (rxCountBytes + 1) → ⊥) → Same P a (withRx at x a)
   unfolding withRx
   same-rx at x a high low =
       same-two P _ _ high low
@@ -120,22 +121,22 @@ module _ (P : ℕ → Type 0) (tables : (j : ℕ) → 16 ≤ j → j < 8960 → 
 
 -- P: none of those places, nor of the order and the counts
 module _
-    (P : ℕ → Type 0) (order : P 3 → ⊥) (counts : (j : ℕ) → 6 ≤ j → j < 8960 → P j → ⊥)
+    (P : ℕ → Type 0) (order : P orderByte → ⊥) (counts : (j : ℕ) → nodeCountByte ≤ j → j < planStart → P j → ⊥)
   where
-    tables : (j : ℕ) → 16 ≤ j → j < 8960 → P j → ⊥
+    tables : (j : ℕ) → nodesStart ≤ j → j < planStart → P j → ⊥
     tables j low high = counts j (omega arith) high
 
     same-record : (at : ℕ) (r : Record) (a : List ℕ) → Same P a (withRecord at r a)
     unfolding withRecord
     same-record at (Head o) a = same-set P _ _ order (same P a)
-    same-record at (Node type) a = same-set P _ _ (counts 6 (omega arith) (omega arith)) (same P a)
-    same-record at (Tx x) a = same-tx P tables at x a (counts 8 (omega arith) (omega arith)) (counts 9 (omega arith) (omega arith))
-    same-record at (Rx x) a = same-rx P tables at x a (counts 10 (omega arith) (omega arith)) (counts 11 (omega arith) (omega arith))
-    same-record at (Signal p s) a = same P a
-    same-record at (Destination t q) a = same P a
-    same-record at BadKind a = same P a
-    same-record at (Cut kind) a = same P a
-    same-record at End a = same P a
+    same-record at (Node body) a = same-set P _ _ (counts nodeCountByte (omega arith) (omega arith)) (same P a)
+    same-record at (Tx x) a = same-tx P tables at x a (counts txCountBytes (omega arith) (omega arith))
+        (counts (txCountBytes + 1) (omega arith) (omega arith))
+    same-record at (Rx x) a = same-rx P tables at x a (counts rxCountBytes (omega arith) (omega arith))
+        (counts (rxCountBytes + 1) (omega arith) (omega arith))
+    same-record at (Signal body) a = same P a
+    same-record at (Destination body) a = same P a
+    same-record at (Broken fault) a = same P a
 
     pub same-records : (at : ℕ) (rs : List Record) (a : List ℕ) → Same P a (withRecords at rs a)
     unfolding withRecords
@@ -157,6 +158,6 @@ room-kept n k a =
 
 pub start-next :
     (a b : List ℕ) (n start frames : ℕ) → b ≡ withRings n a → start ≡ ringsBefore a n → frames ≡ twoAt b (queue n + 2)
-    → start + (frames % 512 + 1) ≡ ringsBefore a (n + 1)
+    → start + (frames % mostRoom + 1) ≡ ringsBefore a (n + 1)
 unfolding ringsBefore
 start-next a b n start frames is before read = rw (add-one n, read, is, room-kept n n a, before)

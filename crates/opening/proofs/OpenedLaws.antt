@@ -1,4 +1,4 @@
--- Laws of an opened area. Assumes nothing.
+-- Laws of an opened area.
 use mathlib.Core.Path.{_≡_, refl, _∙_}
 use mathlib.Core.Bool.{true}
 use mathlib.Core.List.{List}
@@ -15,7 +15,8 @@ use Rattle.plan.specs.Check.{checkPlan, setsOf}
 use Rattle.plan.specs.Rows.{txOf, rowsOf}
 use Rattle.facts.proofs.GoodFacts.{good-facts}
 use Rattle.facts.proofs.Bounds.{good-bounds}
-use Rattle.area.specs.Layout.{marked, counter, nodeCount, txCount, rxCount, planOf}
+use Rattle.area.specs.Layout.{areaLength, counterByte, orderByte, planLengthBytes, nodeCountByte, txCountBytes, rxCountBytes, nodesStart}
+use Rattle.area.specs.Layout.{planStart, planRoom, LongEnough, marked, counter, nodeCount, txCount, rxCount, planLength, planOf}
 use Rattle.opening.specs.Opened.{blank, withRecords, opened}
 use Rattle.opening.proofs.Kept.{Same, same-then, same-records, same-rings, same-fullness}
 use Rattle.opening.proofs.Alike.{Alike, alike-records, alike-rings, alike-fullness}
@@ -23,27 +24,29 @@ use Rattle.opening.proofs.Counted.{counts}
 use Rattle.opening.proofs.BlankLaws.{alike-blank, blank-same, blank-length, blank-mark, blank-long, blank-zero, blank-plan}
 
 -- the rings and the fullness stand in the tables
-last-same : (P : ℕ → Type 0) → ((j : ℕ) → 16 ≤ j → j < 8960 → P j → ⊥) → (plan a : List ℕ) → Same P (withRecords 0 (records plan) (blank plan a)) (opened plan a)
+last-same : (P : ℕ → Type 0) → ((j : ℕ) → nodesStart ≤ j → j < planStart → P j → ⊥) → (plan a : List ℕ)
+    → Same P (withRecords 0 (records plan) (blank plan a)) (opened plan a)
 unfolding opened
 last-same P tables plan a = same-then P (same-rings P tables 16 _ (omega arith)) (same-fullness P tables (setsOf plan) 256 _ (omega arith))
 
 -- P: a place that nothing is stored at once the area is blank
-opened-same : (P : ℕ → Type 0) → (P 3 → ⊥) → ((j : ℕ) → 6 ≤ j → j < 8960 → P j → ⊥) → (plan a : List ℕ) → Same P (blank plan a) (opened plan a)
+opened-same : (P : ℕ → Type 0) → (P orderByte → ⊥) → ((j : ℕ) → nodeCountByte ≤ j → j < planStart → P j → ⊥) → (plan a : List ℕ)
+    → Same P (blank plan a) (opened plan a)
 opened-same P order counted plan a =
     same-then P (same-records P order counted 0 (records plan) _) (last-same P (λ j low high. counted j (omega arith) high) plan a)
 
 pub opened-length : (plan a : List ℕ) → length (opened plan a) ≡ length a
 opened-length plan a = opened-same (λ j. ⊥) (λ p. p) (λ j low high p. p) plan a .len ∙ blank-length plan a
 
--- past the first 32,768 bytes nothing is written
-pub opened-past : (plan a : List ℕ) → length plan ≤ 23808 → (j : ℕ) → 32768 ≤ j → byteAt (opened plan a) j ≡ byteAt a j
+-- past the area nothing is written
+pub opened-past : (plan a : List ℕ) → length plan ≤ planRoom → (j : ℕ) → areaLength ≤ j → byteAt (opened plan a) j ≡ byteAt a j
 opened-past plan a short j h =
-    let P : ℕ → Type 0 = λ i. 32768 ≤ i in
+    let P : ℕ → Type 0 = λ i. areaLength ≤ i in
     same-then P (blank-same plan a P short (λ i l p. omega arith)) (opened-same P (λ p. omega arith) (λ i low high p. omega arith) plan a) .at j h
 
-module _ (plan a : List ℕ) (room : 32768 ≤ length a) where
+module _ (plan a : List ℕ) (room : LongEnough a) where
   -- the header but for the order and the counts, and the plan, are the blank area's
-  kept : Same (λ j. (j ≡ 3 → ⊥) × (6 ≤ j → 8960 ≤ j)) (blank plan a) (opened plan a)
+  kept : Same (λ j. (j ≡ orderByte → ⊥) × (nodeCountByte ≤ j → planStart ≤ j)) (blank plan a) (opened plan a)
   kept = opened-same _ (λ p. p .0 refl) (λ j low high p. omega (arith, p .1 low)) plan a
 
   pub opened-mark : (byteAt (opened plan a) 0 ≡ 0x47) × (byteAt (opened plan a) 1 ≡ 0x57)
@@ -55,31 +58,31 @@ module _ (plan a : List ℕ) (room : 32768 ≤ length a) where
   unfolding marked pick
   opened-marked =
       rw
-      (opened-length plan a, le-leb 32768 (length a) room, eq-eqb (byteAt (opened plan a) 0) 0x47 (opened-mark .0))
+      (opened-length plan a, le-leb areaLength (length a) room, eq-eqb (byteAt (opened plan a) 0) 0x47 (opened-mark .0))
       (eq-eqb (byteAt (opened plan a) 1) 0x57 (opened-mark .1))
 
   pub opened-counter : counter (opened plan a) ≡ 0
   opened-counter =
-      kept .at 2 (λ e. omega arith, λ h. omega arith)
-      ∙ blank-zero plan a room 2 (omega arith) (λ e. omega arith) (λ e. omega arith) (λ e. omega arith) (λ e. omega arith)
+      kept .at counterByte (λ e. omega arith, λ h. omega arith)
+      ∙ blank-zero plan a room counterByte (omega arith) (λ e. omega arith) (λ e. omega arith) (λ e. omega arith) (λ e. omega arith)
 
-  pub opened-plan : length plan ≤ 23808 → planOf (opened plan a) ≡ plan
+  pub opened-plan : length plan ≤ planRoom → planOf (opened plan a) ≡ plan
   unfolding planOf
   opened-plan short =
-      let high = kept .at 4 (λ e. omega arith, λ h. omega arith) in
-      let low = kept .at 5 (λ e. omega arith, λ h. omega arith) in
-      let m : twoAt (opened plan a) 4 ≡ length plan = omega (arith, blank-long plan a room short) in
-      let n : twoAt (opened plan a) 4 % 23809 ≡ length plan = rw m (omega arith) in
-      let l : length (take (length plan) (drop 8960 (opened plan a))) ≡ length plan =
-      length-take-le (length plan) (drop 8960 (opened plan a)) (omega (arith, length-drop 8960 (opened plan a), opened-length plan a)) in
+      let high = kept .at planLengthBytes (λ e. omega arith, λ h. omega arith) in
+      let low = kept .at (planLengthBytes + 1) (λ e. omega arith, λ h. omega arith) in
+      let m : twoAt (opened plan a) planLengthBytes ≡ length plan = omega (arith, blank-long plan a room short) in
+      let n : planLength (opened plan a) ≡ length plan = rw m (omega arith) in
+      let l : length (take (length plan) (drop planStart (opened plan a))) ≡ length plan =
+      length-take-le (length plan) (drop planStart (opened plan a)) (omega (arith, length-drop planStart (opened plan a), opened-length plan a)) in
       rw n
-      (ext-getD 0 (take (length plan) (drop 8960 (opened plan a))) plan l
+      (ext-getD 0 (take (length plan) (drop planStart (opened plan a))) plan l
       (λ i h. let k : i < length plan = omega arith in
-      getD-take (length plan) (drop 8960 (opened plan a)) i 0 k ∙ getD-drop 8960 (opened plan a) i 0
-      ∙ kept .at (8960 + i) (λ e. omega arith, λ m. omega arith) ∙ blank-plan plan a room short i k))
+      getD-take (length plan) (drop planStart (opened plan a)) i 0 k ∙ getD-drop planStart (opened plan a) i 0
+      ∙ kept .at (planStart + i) (λ e. omega arith, λ m. omega arith) ∙ blank-plan plan a room short i k))
 
 -- an opened area is a function of the plan alone
-pub opened-alike : (plan a b : List ℕ) → 32768 ≤ length a → 32768 ≤ length b → Alike (opened plan a) (opened plan b)
+pub opened-alike : (plan a b : List ℕ) → LongEnough a → LongEnough b → Alike (opened plan a) (opened plan b)
 unfolding opened
 opened-alike plan a b first second =
     alike-fullness (setsOf plan) 256 (alike-rings 16 (omega arith) (alike-records 0 (records plan) (alike-blank plan a b first second)))
@@ -90,21 +93,24 @@ pub record Counted (a : List ℕ) (n t r : ℕ) : Type 0 where
   pub tx : txCount a ≡ t
   pub rx : rxCount a ≡ r
 
-pub opened-counts : (plan a : List ℕ) (n t r : ℕ) → checkPlan plan ≡ Good n t r → 32768 ≤ length a → Counted (opened plan a) n t r
+pub opened-counts : (plan a : List ℕ) (n t r : ℕ) → checkPlan plan ≡ Good n t r → LongEnough a → Counted (opened plan a) n t r
 unfolding txOf rowsOf
 opened-counts plan a n t r good room =
     let most = good-bounds plan n t r good in
     let few = good-facts plan n t r good .1 in
-    let zero : (j : ℕ) → 6 ≤ j → j < 8960 → byteAt (blank plan a) j ≡ 0 =
+    let zero : (j : ℕ) → nodeCountByte ≤ j → j < planStart → byteAt (blank plan a) j ≡ 0 =
     λ j low high. blank-zero plan a room j high (λ e. omega arith) (λ e. omega arith) (λ e. omega arith) (λ e. omega arith) in
     let c = counts 0 (records plan) (blank plan a) (omega (arith, blank-length plan a)) in
-    let s = last-same (λ j. j < 16) (λ j low high p. omega arith) plan a in
-    let z6 = zero 6 (omega arith) (omega arith) in
-    let z8 = zero 8 (omega arith) (omega arith) in
-    let z9 = zero 9 (omega arith) (omega arith) in
-    let z10 = zero 10 (omega arith) (omega arith) in
-    let z11 = zero 11 (omega arith) (omega arith) in
-    let nodes′ : byteAt (opened plan a) 6 ≡ n = omega (arith, s .at 6 (omega arith), c .nodes (omega (arith, few .nodes, most .nodes)), few .nodes) in
-    let tx′ : twoAt (opened plan a) 8 ≡ t = omega (arith, s .at 8 (omega arith), s .at 9 (omega arith), c .tx (omega (arith, few .tx, most .tx)), few .tx) in
-    let rx′ : twoAt (opened plan a) 10 ≡ r = omega (arith, s .at 10 (omega arith), s .at 11 (omega arith), c .rx 0 (omega (arith, few .rx, most .rx)), few .rx) in
+    let s = last-same (λ j. j < nodesStart) (λ j low high p. omega arith) plan a in
+    let nodes₀ = zero nodeCountByte (omega arith) (omega arith) in
+    let tx₀ = zero txCountBytes (omega arith) (omega arith) in
+    let tx₁ = zero (txCountBytes + 1) (omega arith) (omega arith) in
+    let rx₀ = zero rxCountBytes (omega arith) (omega arith) in
+    let rx₁ = zero (rxCountBytes + 1) (omega arith) (omega arith) in
+    let nodes′ : byteAt (opened plan a) nodeCountByte ≡ n =
+    omega (arith, s .at nodeCountByte (omega arith), c .nodes (omega (arith, few .nodes, most .nodes)), few .nodes) in
+    let tx′ : twoAt (opened plan a) txCountBytes ≡ t =
+    omega (arith, s .at txCountBytes (omega arith), s .at (txCountBytes + 1) (omega arith), c .tx (omega (arith, few .tx, most .tx)), few .tx) in
+    let rx′ : twoAt (opened plan a) rxCountBytes ≡ r =
+    omega (arith, s .at rxCountBytes (omega arith), s .at (rxCountBytes + 1) (omega arith), c .rx 0 (omega (arith, few .rx, most .rx)), few .rx) in
     record { nodes = rw nodes′ (omega (arith, most .nodes)); tx = rw tx′ (omega (arith, most .tx)); rx = rw rx′ (omega (arith, most .rx)) }

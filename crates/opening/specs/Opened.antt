@@ -2,7 +2,7 @@
 -- at the long count, queues empty, tick counter 0. It answers the counts of nodes, Tx and Rx frames."
 use Prim.Native.Nat.{ℕ, zero, suc, _+_, _/_, _%_}
 use mathlib.Core.List.{List, [], _∷_}
-use lib.Dec.{leb, eqb}
+use lib.Dec.{eqb}
 use lib.ListN.{length, getD, set}
 use Rattle.base.specs.Pick.{pick}
 use Rattle.base.specs.Numbers.{byteAt, twoAt, setTwo}
@@ -12,12 +12,14 @@ use Rattle.records.specs.declared.record.Eight.{Eight}
 use Rattle.records.specs.declared.record.TxFrame.{TxFrame}
 use Rattle.records.specs.declared.record.RxFrame.{RxFrame}
 use Rattle.records.specs.declared.record.Record.{Record}
-use Rattle.records.specs.declared.record.Record.the-variants.{Head, Node, Tx, Rx, Signal, Destination, BadKind, Cut, End}
+use Rattle.records.specs.Views.{onHead, onNode, onTx, onRx}
 use Rattle.records.specs.Records.{sizeOf, records}
 use Rattle.plan.specs.declared.verdict.Verdict.{Verdict}
 use Rattle.plan.specs.declared.verdict.Verdict.the-variants as verdict
 use Rattle.plan.specs.Check.{setsOf}
+use Rattle.area.specs.Layout.{areaLength, orderByte, planLengthBytes, nodeCountByte, txCountBytes, rxCountBytes, planStart, longEnough}
 use Rattle.area.specs.Layout.{node, queue, txTimer, rxTimer, long, full, txPlace, row, payload, txMask, rxMask}
+use Rattle.area.specs.Queue.{roomOf}
 use Rattle.answers.specs.declared.Refusal.the-variants.{Plan, ShortArea}
 use Rattle.answers.specs.declared.Opened.{Opened}
 use Rattle.answers.specs.declared.Opened.the-variants.{Open, Refused}
@@ -29,23 +31,23 @@ unfoldable pub cleared : ℕ → List ℕ → List ℕ
 cleared zero a = a
 cleared (suc n) a = set (cleared n a) n 0
 
--- the first n bytes of the plan, from 8,960 on
+-- the first n bytes of the plan, in its place
 unfoldable pub laid : List ℕ → ℕ → List ℕ → List ℕ
 laid plan zero a = a
-laid plan (suc n) a = set (laid plan n a) (8960 + n) (getD plan n 0)
+laid plan (suc n) a = set (laid plan n a) (planStart + n) (getD plan n 0)
 
 -- with the mark and the plan's length
 unfoldable pub blank : List ℕ → List ℕ → List ℕ
-blank plan a = setTwo (set (set (laid plan (length plan) (cleared 32768 a)) 0 0x47) 1 0x57) 4 (length plan)
+blank plan a = setTwo (set (set (laid plan (length plan) (cleared areaLength a)) 0 0x47) 1 0x57) planLengthBytes (length plan)
 
 -- ---- one record: at is its place in the plan
 
 -- the number that the next Tx frame, and the next Rx frame, gets
 abbrev pub nextTx : List ℕ → ℕ
-nextTx a = twoAt a 8 % 256
+nextTx a = twoAt a txCountBytes % 256
 
 abbrev pub nextRx : List ℕ → ℕ
-nextRx a = twoAt a 10 % 256
+nextRx a = twoAt a rxCountBytes % 256
 
 -- timer t of Tx frames: reload, initial value, mask
 unfoldable pub withTxTimer : ℕ → TxFrame → List ℕ → List ℕ
@@ -77,7 +79,7 @@ unfoldable pub withTx : ℕ → TxFrame → List ℕ → List ℕ
 withTx at x a =
     setTwo
     (withFrame (x .node % 16) (withPayload (nextTx a) (x .payload) (withTxTimer (nextTx a) x (setTwo a (txPlace (nextTx a)) at))))
-    8 (nextTx a + 1)
+    txCountBytes (nextTx a + 1)
 
 unfoldable pub withRxTimer : ℕ → RxFrame → List ℕ → List ℕ
 withRxTimer r x a =
@@ -93,18 +95,14 @@ withNodeRow n r a =
     setTwo (pick (eqb (twoAt a (node n + 2)) 0) (setTwo a (node n) r) a) (node n + 2) (twoAt a (node n + 2) + 1)
 
 unfoldable pub withRx : ℕ → RxFrame → List ℕ → List ℕ
-withRx at x a = setTwo (withNodeRow (x .node % 16) (nextRx a) (withRow (nextRx a) at x (withRxTimer (nextRx a) x a))) 10 (nextRx a + 1)
+withRx at x a =
+    setTwo (withNodeRow (x .node % 16) (nextRx a) (withRow (nextRx a) at x (withRxTimer (nextRx a) x a))) rxCountBytes (nextRx a + 1)
 
 unfoldable pub withRecord : ℕ → Record → List ℕ → List ℕ
-withRecord at (Head order) a = set a 3 order
-withRecord at (Node type) a = set a 6 ((byteAt a 6 + 1) % 256)
-withRecord at (Tx frame) a = withTx at frame a
-withRecord at (Rx frame) a = withRx at frame a
-withRecord at (Signal p s) a = a
-withRecord at (Destination t q) a = a
-withRecord at BadKind a = a
-withRecord at (Cut kind) a = a
-withRecord at End a = a
+withRecord at r a =
+    onHead
+    (onNode (onTx (onRx a (λ frame. withRx at frame a) r) (λ frame. withTx at frame a) r) (λ body. set a nodeCountByte ((byteAt a nodeCountByte + 1) % 256)) r)
+    (λ order. set a orderByte order) r
 
 -- all records from a place on
 unfoldable pub withRecords : ℕ → List Record → List ℕ → List ℕ
@@ -116,7 +114,7 @@ withRecords at (r ∷ rs) a = withRecords (at + sizeOf r) rs (withRecord at r a)
 -- the rings of the first n nodes, one after the other: each has room for its frames and one more
 unfoldable pub ringsBefore : List ℕ → ℕ → ℕ
 ringsBefore a zero = 0
-ringsBefore a (suc n) = ringsBefore a n + (twoAt a (queue n + 2) % 512 + 1)
+ringsBefore a (suc n) = ringsBefore a n + roomOf a n
 
 unfoldable pub withRings : ℕ → List ℕ → List ℕ
 withRings zero a = a
@@ -134,7 +132,7 @@ opened plan a = withFullness (setsOf plan) 256 (withRings 16 (withRecords 0 (rec
 
 -- "10: the plan is good and the area is shorter than 32,768 bytes"; "Refusal 10 carries record number 0."
 unfoldable pub openedAnswer : Verdict → ℕ → Opened
-openedAnswer (verdict.Good nodes tx rx) n = pick (leb 32768 n) (Open nodes tx rx) (Refused ShortArea 0)
+openedAnswer (verdict.Good nodes tx rx) n = pick (longEnough n) (Open nodes tx rx) (Refused ShortArea 0)
 openedAnswer (verdict.Refused reason number) n = Refused (Plan reason) number
 
 -- "A refusal writes nothing."

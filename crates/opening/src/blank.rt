@@ -1,39 +1,43 @@
 // An empty area with the plan in it.
+use area::layout::AREA_LENGTH;
+use area::layout::PLAN_LENGTH_BYTES;
+use area::layout::PLAN_START;
 use base::put_two;
 ghost use mathlib.Core.Path.{_≡_};
 ghost use Prim.Native.Nat.{_≤_};
 ghost use lib.ListN.{length};
+ghost use Rattle.area.specs.Layout.{areaLength, planRoom, LongEnough};
 ghost use Rattle.opening.specs.Opened.{cleared, laid, blank};
 
-// The first 32,768 bytes become zero.
+// The bytes of the area become zero; what is past them stays.
 fn clear(area: &mut [u8])
-    requires { ⌜ 32768 ≤ length (now area) ⌝ }
-    ensures { λ r. ⌜ now (area .exit) ≡ cleared 32768 (now (area .entry)) ⌝ }
+    requires { ⌜ LongEnough (now area) ⌝ }
+    ensures { λ r. ⌜ now (area .exit) ≡ cleared areaLength (now (area .entry)) ⌝ }
 {
-    for i in 0..32768 {
+    for i in 0..AREA_LENGTH {
         area[i] = 0;
     }
 }
 
-// The plan is copied, from place 8,960 on.
+// The plan is copied to its place.
 fn lay(plan: &[u8], area: &mut [u8])
-    requires { ⌜ (length (now plan) ≤ 23808) × (32768 ≤ length (now area)) ⌝ }
+    requires { ⌜ (length (now plan) ≤ planRoom) × LongEnough (now area) ⌝ }
     ensures { λ r. ⌜ now (area .exit) ≡ laid (now (plan .entry)) (length (now (plan .entry))) (now (area .entry)) ⌝ }
 {
     let n = plan.len();
     for i in 0..n {
-        area[8960 + i] = plan[i];
+        area[PLAN_START + i] = plan[i];
     }
 }
 
 // Zeros, the plan, the mark and the plan's length.
 pub fn make_blank(plan: &[u8], area: &mut [u8])
-    requires { ⌜ (length (now plan) ≤ 23808) × (32768 ≤ length (now area)) ⌝ }
+    requires { ⌜ (length (now plan) ≤ planRoom) × LongEnough (now area) ⌝ }
     ensures { λ r. ⌜ now (area .exit) ≡ blank (now (plan .entry)) (now (area .entry)) ⌝ }
 {
     clear(area);
     lay(plan, area);
     area[0] = 0x47;
     area[1] = 0x57;
-    put_two(area, 4, plan.len());
+    put_two(area, PLAN_LENGTH_BYTES, plan.len());
 }

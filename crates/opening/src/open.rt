@@ -5,6 +5,7 @@ use crate::queues::with_rings;
 use crate::record::with_records;
 use answers::Opened;
 use answers::Refusal;
+use area::layout::AREA_LENGTH;
 use plan::check::check_with;
 use plan::verdict::Verdict;
 ghost use mathlib.Core.Path.{_≡_};
@@ -12,12 +13,14 @@ ghost use Prim.Native.Nat.{_≤_};
 ghost use lib.ListN.{length};
 ghost use Rattle.records.specs.Records.{records};
 ghost use Rattle.plan.specs.Check.{checkPlan};
+ghost use Rattle.area.specs.Layout.{planRoom, LongEnough};
 ghost use Rattle.opening.specs.Opened.{blank, withRecords, withRings, withFullness, openedAnswer, openedArea};
 
 // The area as the plan begins it, where `sets` has the owned bits of each Tx frame.
 fn fill(plan: &[u8], sets: &[u64], area: &mut [u8])
-    requires { ⌜ (length (now plan) ≤ 23808) × (length (now sets) ≡ 256) × (32768 ≤ length (now area)) ⌝ }
-    ensures { λ r. ⌜ now (area .exit) ≡ withFullness (now (sets .entry)) 256 (withRings 16 (withRecords 0 (records (now (plan .entry))) (blank (now (plan .entry)) (now (area .entry))))) ⌝ }
+    requires { ⌜ (length (now plan) ≤ planRoom) × (length (now sets) ≡ 256) × LongEnough (now area) ⌝ }
+    ensures { λ r. ⌜ now (area .exit) ≡
+        withFullness (now (sets .entry)) 256 (withRings 16 (withRecords 0 (records (now (plan .entry))) (blank (now (plan .entry)) (now (area .entry))))) ⌝ }
 {
     make_blank(plan, area);
     with_records(area, plan);
@@ -34,7 +37,7 @@ pub fn open(plan: &[u8], area: &mut [u8]) -> Opened
     let verdict = check_with(plan, &mut sets);
     match verdict {
         Verdict::Good { nodes, tx, rx } => {
-            if area.len() < 32768 {
+            if area.len() < AREA_LENGTH {
                 return Opened::Refused {
                     why: Refusal::ShortArea,
                     record: 0,

@@ -1,5 +1,4 @@
 -- Laws of the events' text: none at the input's end, one event's line before, and what a buffer shows once a line is put behind the others.
--- Assumes nothing.
 use mathlib.Core.Path.{_≡_, refl, sym, ap, _∙_}
 use mathlib.Core.List.{List, [], _++_, append-assoc, append-nil}
 use Prim.Native.Nat.{ℕ, zero, suc, _+_, _-_, _≤_, _<_}
@@ -9,6 +8,7 @@ use lib.Seq.{take-at, length-take-le}
 use borrow.Author.Tests.{le-leb}
 use borrow.Rule.Slice.PartMut.{midOf, putMid}
 use Rattle.base.proofs.Picks.{picks}
+use Rattle.plan.specs.Shortest.{shortestArea}
 use Rattle.answers.specs.declared.Refusal.{Refusal}
 use Rattle.answers.specs.declared.Opened.{Opened}
 use Rattle.answers.specs.declared.Opened.the-variants as opened
@@ -91,7 +91,7 @@ turn input at rx a out line k used size next a′ whole lt p h l d n w =
 
 -- the first line, and where the events begin
 pub first-good : (input out area : List ℕ) (end size n t rx : ℕ) (answer : Opened) → answer ≡ opened.Open n t rx → take size out ≡ planLine answer
-    → area ≡ openedArea answer (planOf input end) (replicate 32768 0) → take size out ++ textFrom input end rx area ≡ planText answer input end
+    → area ≡ openedArea answer (planOf input end) (replicate shortestArea 0) → take size out ++ textFrom input end rx area ≡ planText answer input end
 unfolding planText openText
 first-good input out area end size n t rx answer e s d = rw (s, d, e)
 

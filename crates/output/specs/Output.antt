@@ -3,6 +3,7 @@ use Prim.Native.Nat.{ℕ, zero, suc, _+_, _-_, _%_}
 use mathlib.Core.List.{List, [], _++_}
 use lib.ListN.{length, replicate}
 use Rattle.plan.specs.Check.{checkPlan}
+use Rattle.plan.specs.Shortest.{shortestArea}
 use Rattle.answers.specs.declared.Opened.{Opened}
 use Rattle.answers.specs.declared.Opened.the-variants as opened
 use Rattle.opening.specs.Opened.{openedAnswer, openedArea}
@@ -78,14 +79,14 @@ textFrom input at rx a = textIn (length input - at) input at rx a
 
 -- the plan's line, and where the plan is good the events' lines; the area that is lent is 32,768 bytes of 0
 abbrev pub openOf : List ℕ → ℕ → Opened
-openOf input end = openedAnswer (checkPlan (planOf input end)) 32768
+openOf input end = openedAnswer (checkPlan (planOf input end)) shortestArea
 
 unfoldable pub openText : Opened → List ℕ → ℕ → List ℕ → List ℕ
 openText (opened.Open nodes tx rx) input end a = textFrom input end rx a
 openText (opened.Refused why number) input end a = []
 
 unfoldable pub planText : Opened → List ℕ → ℕ → List ℕ
-planText answer input end = planLine answer ++ openText answer input end (openedArea answer (planOf input end) (replicate 32768 0))
+planText answer input end = planLine answer ++ openText answer input end (openedArea answer (planOf input end) (replicate shortestArea 0))
 
 unfoldable pub frontText : Front → List ℕ → List ℕ
 frontText front.Bad input = badLine

@@ -1,4 +1,4 @@
--- What is claimed, by what joining answers: the five ways. Assumes nothing.
+-- What is claimed, by what joining answers: the five ways.
 use mathlib.Core.Path.{_≡_, sym, ap, _∙_}
 use mathlib.Core.Bool.{Bool, true, false}
 use Prim.Native.Nat.{ℕ, _≤_, _<_}

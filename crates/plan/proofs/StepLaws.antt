@@ -1,18 +1,22 @@
--- The tests that each kind of record has, peeled from the front. Assumes nothing.
-use mathlib.Core.Path.{_≡_, refl, ap}
+-- The tests that each kind of record has, peeled from the front.
+use mathlib.Core.Path.{_≡_, refl, ap, _∙_}
 use mathlib.Core.Bool.{Bool, true, false, not, _&&_, _||_}
 use mathlib.Core.List.{List}
-use Prim.Native.Nat.{ℕ, _+_, _*_}
+use Prim.Native.Nat.{ℕ, _+_, _*_, _≤_, _<_}
 use lib.Dec.{leb, ltb, eqb}
 use lib.ListN.{getD}
-use borrow.Author.Tests.{not-true, not-false}
+use borrow.Author.Tests.{not-true, not-false, le-leb, lt-leb, le-ltb, lt-ltb}
 use Rattle.base.specs.Pick.{pick}
 use Rattle.base.proofs.Picks.{picks, passes}
-use Rattle.records.specs.declared.record.TxNumber.{TxNumber}
+use Rattle.records.specs.declared.record.NodeBody.{NodeBody}
 use Rattle.records.specs.declared.record.TxFrame.{TxFrame}
 use Rattle.records.specs.declared.record.RxFrame.{RxFrame}
+use Rattle.records.specs.declared.record.SignalBody.{SignalBody}
+use Rattle.records.specs.declared.record.DestinationBody.{DestinationBody}
 use Rattle.records.specs.declared.record.Record.{Record}
 use Rattle.records.specs.declared.record.Record.the-variants.{Head, Node, Tx, Rx, Signal, Destination}
+use Rattle.records.specs.Kinds.{nodeStage, txStage, rxStage, signalStage}
+use Rattle.plan.specs.Limits.{mostNodes, mostTx, mostRx, mostSignals, mostInFrame, mostDestinations, mostOfSignal}
 use Rattle.plan.specs.declared.verdict.Reason.{Reason}
 use Rattle.plan.specs.declared.verdict.Reason.the-variants.{Place, Count, Range, Order, Data, Owner, Indicator}
 use Rattle.plan.specs.declared.progress.Progress.{Progress}
@@ -36,50 +40,61 @@ pub goes : (t : Bool) (a : Reason) (n : ℕ) (rest : Next) {x : Next} → not t 
 unfolding need
 goes t a n rest e same = rw (picks t rest (Refuse a n) (not-false t e)) same
 
+-- the three that come first, of its place, the counts and its ranges, and what comes after them
+pub record Tried (n : ℕ) (stands room range : Bool) (rest y : Next) : Type 0 where
+  pub same : need stands Place n (need room Count n (need range Range n rest)) ≡ y
+
+module _ {n : ℕ} {stands room range : Bool} {rest y : Next} (tests : Tried n stands room range rest y) where
+  pub at-place : not stands ≡ true → Refuse Place n ≡ y
+  at-place s = stops _ _ _ _ s ∙ tests .same
+
+  pub at-count : not stands ≡ false → not room ≡ true → Refuse Count n ≡ y
+  at-count s r = goes _ _ _ _ s (stops _ _ _ _ r) ∙ tests .same
+
+  pub at-range : not stands ≡ false → not room ≡ false → not range ≡ true → Refuse Range n ≡ y
+  at-range s r g = goes _ _ _ _ s (goes _ _ _ _ r (stops _ _ _ _ g)) ∙ tests .same
+
+  pub past : not stands ≡ false → not room ≡ false → not range ≡ false → {x : Next} → x ≡ rest → x ≡ y
+  past s r g e = goes _ _ _ _ s (goes _ _ _ _ r (goes _ _ _ _ g e)) ∙ tests .same
+
 -- ---- the tests that each kind has
 
 module _ (p : Progress) (sizes sets : List ℕ) where
-  pub head-tests : (order : ℕ) → need (eqb (p .last) 0) Place (p .number) (need (leb order 1) Range (p .number) (Go (after p (Head order)))) ≡ placed p sizes sets (Head order)
+  pub head-tests :
+      (order : ℕ) → Tried (p .number) (eqb (p .stage) 0) true (leb order 1) (Go (after p (Head order))) (placed p sizes sets (Head order))
   unfolding placed need pick mayStand hasRoom inRange rises inData isFree indicatorInData indicatorIsFree
-  head-tests order = refl
+  head-tests order = record { same = refl }
 
   pub node-tests :
-      (of : ℕ)
-      → need (ltb 0 (p .last) && leb (p .last) 2) Place (p .number)
-      (need (ltb (p .counts .nodes) 16) Count (p .number)
-      (need (eqb of 0) Range (p .number)
-      (Go (after p (Node of))))) ≡ placed p sizes sets (Node of)
+      (body : NodeBody)
+      → Tried (p .number) (ltb 0 (p .stage) && leb (p .stage) nodeStage) (ltb (p .counts .nodes) mostNodes) (eqb (body .of) 0)
+      (Go (after p (Node body))) (placed p sizes sets (Node body))
   unfolding placed need pick mayStand hasRoom inRange rises inData isFree indicatorInData indicatorIsFree
-  node-tests of = refl
+  node-tests body = record { same = refl }
 
   pub tx-tests :
       (x : TxFrame)
-      → need (ltb 0 (p .last) && leb (p .last) 3) Place (p .number)
-      (need (ltb (p .counts .tx) 256) Count (p .number)
-      (need (txInRange (p .counts .nodes) x) Range (p .number)
-      (Go (after p (Tx x))))) ≡ placed p sizes sets (Tx x)
+      → Tried (p .number) (ltb 0 (p .stage) && leb (p .stage) txStage) (ltb (p .counts .tx) mostTx) (txInRange (p .counts .nodes) x)
+      (Go (after p (Tx x))) (placed p sizes sets (Tx x))
   unfolding placed need pick mayStand hasRoom inRange rises inData isFree indicatorInData indicatorIsFree
-  tx-tests x = refl
+  tx-tests x = record { same = refl }
 
   pub rx-tests :
       (x : RxFrame)
-      → need (ltb 0 (p .last)) Place (p .number)
-      (need (ltb (p .counts .rx) 256) Count (p .number)
-      (need (rxInRange (p .counts .nodes) x) Range (p .number)
+      → Tried (p .number) (ltb 0 (p .stage)) (ltb (p .counts .rx) mostRx) (rxInRange (p .counts .nodes) x)
       (need (leb (p .row .floor) (keyOf x)) Order (p .number)
-      (Go (after p (Rx x)))))) ≡ placed p sizes sets (Rx x)
+      (Go (after p (Rx x)))) (placed p sizes sets (Rx x))
   unfolding placed need pick mayStand hasRoom inRange rises inData isFree indicatorInData indicatorIsFree
-  rx-tests x = refl
+  rx-tests x = record { same = refl }
 
   pub signal-tests :
-      (q s : ℕ)
-      → need (leb 4 (p .last)) Place (p .number)
-      (need (ltb (p .counts .signals) 1024 && ltb (p .row .signals) 64) Count (p .number)
-      (need (leb q 63 && ltb 0 s && leb s 64) Range (p .number)
-      (need (leb (q + s) (p .row .room)) Data (p .number)
-      (Go (after p (Signal q s)))))) ≡ placed p sizes sets (Signal q s)
+      (body : SignalBody)
+      → Tried (p .number) (leb rxStage (p .stage)) (ltb (p .counts .signals) mostSignals && ltb (p .row .signals) mostInFrame)
+      (leb (body .position) 63 && ltb 0 (body .size) && leb (body .size) 64)
+      (need (leb (body .position + body .size) (p .row .room)) Data (p .number)
+      (Go (after p (Signal body)))) (placed p sizes sets (Signal body))
   unfolding placed need pick mayStand hasRoom inRange rises inData isFree indicatorInData indicatorIsFree
-  signal-tests q s = refl
+  signal-tests body = record { same = refl }
 
 -- ---- a destination: what it claims decides
 
@@ -104,20 +119,45 @@ claim-cases p r false false true false one two = refl
 claim-cases p r false false false true one two = refl
 claim-cases p r false false false false one two = refl
 
-module _ (p : Progress) (sizes sets : List ℕ) (t : TxNumber) (q : ℕ) where
+module _ (p : Progress) (sizes : List ℕ) (body : DestinationBody) where
+  -- how many bits its Tx frame's data has
+  abbrev room : ℕ
+  room = 8 * getD sizes (body .tx .0) 0
+
+  -- whether the Tx frame exists, and the destination stands in its data
+  abbrev isInside : Bool
+  isInside = ltb (body .tx .0) (p .counts .tx) && leb (body .position + p .row .size) room
+
+  pub no-frame : p .counts .tx ≤ body .tx .0 → not isInside ≡ true
+  no-frame h = rw (le-ltb (body .tx .0) (p .counts .tx) h)
+
+  pub past-data : body .tx .0 < p .counts .tx → room < body .position + p .row .size → not isInside ≡ true
+  past-data h l = rw (lt-ltb (body .tx .0) (p .counts .tx) h, lt-leb (body .position + p .row .size) room l)
+
+  pub in-data : body .tx .0 < p .counts .tx → body .position + p .row .size ≤ room → not isInside ≡ false
+  in-data h l = rw (lt-ltb (body .tx .0) (p .counts .tx) h, le-leb (body .position + p .row .size) room l)
+
+module _ (p : Progress) (sizes sets : List ℕ) (body : DestinationBody) where
+  -- the bits of its Tx frame that are owned
+  abbrev set : ℕ
+  set = getD sets (body .tx .0) 0
+
   pub destination-tests :
-      need (leb 5 (p .last)) Place (p .number)
-      (need (ltb (p .counts .destinations) 2048 && ltb (p .row .destinations) 15) Count (p .number)
-      (need (leb q 63) Range (p .number)
-      (need (ltb (t .0) (p .counts .tx) && leb (q + p .row .size) (8 * getD sizes (t .0) 0)) Data (p .number)
-      (claimNext p (Destination t q)
-      (claimed (getD sets (t .0) 0) q (p .row .size) (p .row .awaits) (p .row .position) (8 * getD sizes (t .0) 0)))))) ≡ placed p sizes sets (Destination t q)
+      Tried (p .number) (leb signalStage (p .stage))
+      (ltb (p .counts .destinations) mostDestinations && ltb (p .row .destinations) mostOfSignal)
+      (leb (body .position) 63)
+      (need (isInside p sizes body) Data (p .number)
+      (claimNext p (Destination body) (claimed set (body .position) (p .row .size) (p .row .awaits) (p .row .position) (room p sizes body))))
+      (placed p sizes sets (Destination body))
   unfolding placed need pick mayStand hasRoom inRange rises inData isFree indicatorInData indicatorIsFree claimed
   destination-tests =
-      ap (λ (rest : Next).
-      need (leb 5 (p .last)) Place (p .number)
-      (need (ltb (p .counts .destinations) 2048 && ltb (p .row .destinations) 15) Count (p .number)
-      (need (leb q 63) Range (p .number)
-      (need (ltb (t .0) (p .counts .tx) && leb (q + p .row .size) (8 * getD sizes (t .0) 0)) Data (p .number) rest))))
-      (claim-cases p (Destination t q) (clash (getD sets (t .0) 0) q (p .row .size)) (eqb (p .row .awaits) 0)
-      (ltb (p .row .position) (8 * getD sizes (t .0) 0)) (clash (owned (getD sets (t .0) 0) q (p .row .size)) (p .row .position) 1) _ _)
+      record {
+        same =
+            ap (λ (rest : Next).
+            need (leb signalStage (p .stage)) Place (p .number)
+            (need (ltb (p .counts .destinations) mostDestinations && ltb (p .row .destinations) mostOfSignal) Count (p .number)
+            (need (leb (body .position) 63) Range (p .number)
+            (need (isInside p sizes body) Data (p .number) rest))))
+            (claim-cases p (Destination body) (clash set (body .position) (p .row .size)) (eqb (p .row .awaits) 0)
+            (ltb (p .row .position) (room p sizes body)) (clash (owned set (body .position) (p .row .size)) (p .row .position) 1) _ _);
+      }

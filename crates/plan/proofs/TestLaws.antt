@@ -1,20 +1,31 @@
--- What a test that is passed says of the fields. Assumes nothing.
+-- What a test that is passed says of the fields.
 use mathlib.Core.Path.{_≡_, refl}
 use mathlib.Core.Bool.{Bool, true, false, _&&_, false≢true}
 use Prim.Native.Nat.{ℕ, _≤_, _<_}
 use borrow.Author.Tests.{ltb-true, leb-true}
 use Rattle.records.specs.declared.record.TxFrame.{TxFrame}
 use Rattle.records.specs.declared.record.RxFrame.{RxFrame}
-use Rattle.plan.specs.Tests.{isPrescaler, zeroPast, txInRange, rxInRange}
+use Rattle.records.specs.declared.record.Fault.{Fault}
+use Rattle.records.specs.declared.record.Fault.the-variants.{End, BadKind, Cut}
+use Rattle.records.specs.declared.record.Record.the-variants.{Broken}
+use Rattle.plan.specs.Limits.{idRange}
+use Rattle.plan.specs.Tests.{isKind, isWhole, isPrescaler, zeroPast, txInRange, rxInRange}
 
 -- two tests that are passed together are passed
 pub and-both : (x y : Bool) → (x && y) ≡ true → (x ≡ true) × (y ≡ true)
 and-both true y e = (refl, e)
 and-both false y e = absurd (false≢true e)
 
+-- no broken record has a kind and is whole
+pub no-fault : (fault : Fault) → isKind (Broken fault) ≡ true → isWhole (Broken fault) ≡ true → ⊥
+unfolding isKind isWhole
+no-fault End known whole = false≢true known
+no-fault BadKind known whole = false≢true known
+no-fault (Cut kind) known whole = false≢true whole
+
 pub record TxRanges (nodes : ℕ) (x : TxFrame) : Type 0 where
   pub node : x .node < nodes
-  pub id : x .id < 2048
+  pub id : x .id < idRange
   pub size : x .size ≤ 8
   pub prescaler : isPrescaler (x .prescaler) ≡ true
   pub flags : x .flags ≤ 3
@@ -39,7 +50,7 @@ tx-ranges nodes x e =
 
 pub record RxRanges (nodes : ℕ) (x : RxFrame) : Type 0 where
   pub node : x .node < nodes
-  pub id : x .id < 2048
+  pub id : x .id < idRange
   pub size : x .size ≤ 8
   pub prescaler : isPrescaler (x .prescaler) ≡ true
   pub enable : x .enable ≤ 1

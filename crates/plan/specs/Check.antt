@@ -6,14 +6,17 @@ use lib.Dec.{eqb}
 use lib.ListN.{getD, set, replicate}
 use Rattle.base.specs.Pick.{pick}
 use Rattle.bits.specs.Owners.{owned}
+use Rattle.records.specs.declared.record.Fault.{Fault}
 use Rattle.records.specs.declared.record.Record.{Record}
-use Rattle.records.specs.declared.record.Record.the-variants.{Head, Node, Tx, Rx, Signal, Destination, BadKind, Cut, End}
-use Rattle.records.specs.Records.{kindOf, records}
+use Rattle.records.specs.Views.{byFault, onTx, onDestination}
+use Rattle.records.specs.Kinds.{stageOf}
+use Rattle.records.specs.Records.{records}
+use Rattle.plan.specs.Limits.{mostTx}
 use Rattle.plan.specs.declared.verdict.Reason.{Reason}
 use Rattle.plan.specs.declared.verdict.Reason.the-variants.{Short, Kind, Place, Count, Range, Order, Data, Owner, Indicator}
 use Rattle.plan.specs.declared.verdict.Verdict.{Verdict}
 use Rattle.plan.specs.declared.verdict.Verdict.the-variants.{Good, Refused}
-use Rattle.plan.specs.declared.progress.Row.{Row}
+use Rattle.plan.specs.declared.progress.RowSoFar.{RowSoFar}
 use Rattle.plan.specs.declared.progress.Progress.{Progress}
 use Rattle.plan.specs.declared.progress.Next.{Next}
 use Rattle.plan.specs.declared.progress.Next.the-variants.{Go, Refuse}
@@ -27,7 +30,7 @@ need test reason number rest = pick test rest (Refuse reason number)
 -- "then 2, 1, 3, 4, 5, 6, 7, 8. At a destination, 7 and 8 for itself, then 9 and 8 for the failure bit, all naming the destination."
 unfoldable pub placed : Progress → List ℕ → List ℕ → Record → Next
 placed p sizes sets r =
-    need (mayStand (p .last) r) Place (p .number)
+    need (mayStand (p .stage) r) Place (p .number)
     (need (hasRoom (p .counts) (p .row) r) Count (p .number)
     (need (inRange (p .counts .nodes) r) Range (p .number)
     (need (rises (p .row) r) Order (p .number)
@@ -40,39 +43,30 @@ placed p sizes sets r =
 -- "At each record, or the end, the missing-follower half of 9 is tried first and names the Rx frame's record; then 2, 1, .."
 unfoldable pub judged : Progress → List ℕ → List ℕ → Record → Next
 judged p sizes sets r =
-    need (followed (p .row) (kindOf r)) Indicator (p .row .source)
+    need (followed (p .row) (stageOf r)) Indicator (p .row .source)
     (need (isKind r) Kind (p .number)
     (need (isWhole r) Short (p .number)
     (placed p sizes sets r)))
 
+-- of the two, the one that a fault has
+unfoldable pub faultReason : Fault → Reason
+faultReason fault = byFault Kind Kind (λ kind. Short) fault
+
 -- the Tx frames' sizes after a record
 unfoldable pub sizesAfter : ℕ → List ℕ → Record → List ℕ
-sizesAfter tx sizes (Tx frame) = set sizes tx (frame .size)
-sizesAfter tx sizes (Head order) = sizes
-sizesAfter tx sizes (Node type) = sizes
-sizesAfter tx sizes (Rx frame) = sizes
-sizesAfter tx sizes (Signal p s) = sizes
-sizesAfter tx sizes (Destination t q) = sizes
-sizesAfter tx sizes BadKind = sizes
-sizesAfter tx sizes (Cut kind) = sizes
-sizesAfter tx sizes End = sizes
+sizesAfter tx sizes r = onTx sizes (λ frame. set sizes tx (frame .size)) r
 
 -- "A destination owns its bits in the Tx frame. An enabled failure indicator owns one bit, at its position, in the Tx frame of the first
 -- destination of its frame's first signal."
-unfoldable pub setsAfter : Row → List ℕ → Record → List ℕ
-setsAfter row sets (Destination t q) =
-    set sets (t .0)
+unfoldable pub setsAfter : RowSoFar → List ℕ → Record → List ℕ
+setsAfter row sets r =
+    onDestination sets
+    (λ body.
+    set sets (body .tx .0)
     (pick (eqb (row .awaits) 0)
-    (owned (getD sets (t .0) 0) q (row .size))
-    (owned (owned (getD sets (t .0) 0) q (row .size)) (row .position) 1))
-setsAfter row sets (Head order) = sets
-setsAfter row sets (Node type) = sets
-setsAfter row sets (Tx frame) = sets
-setsAfter row sets (Rx frame) = sets
-setsAfter row sets (Signal p s) = sets
-setsAfter row sets BadKind = sets
-setsAfter row sets (Cut kind) = sets
-setsAfter row sets End = sets
+    (owned (getD sets (body .tx .0) 0) (body .position) (row .size))
+    (owned (owned (getD sets (body .tx .0) 0) (body .position) (row .size)) (row .position) 1)))
+    r
 
 -- at the end: "the input is empty", or the plan is good
 unfoldable pub ended : Progress → Verdict
@@ -93,7 +87,7 @@ checkOn p sizes sets (r ∷ rs) =
     verdictOf (judged p sizes sets r) (checkOn (after p r) (sizesAfter (p .counts .tx) sizes r) (setsAfter (p .row) sets r) rs)
 
 unfoldable pub checkPlan : List ℕ → Verdict
-checkPlan plan = checkOn start (replicate 256 0) (replicate 256 0) (records plan)
+checkPlan plan = checkOn start (replicate mostTx 0) (replicate mostTx 0) (records plan)
 
 -- where a record is refused, the sets of owned bits stay as they are
 unfoldable pub setsUnless : Next → List ℕ → List ℕ → List ℕ
@@ -107,9 +101,9 @@ setsOn p sizes sets (r ∷ rs) =
     setsUnless (judged p sizes sets r) sets (setsOn (after p r) (sizesAfter (p .counts .tx) sizes r) (setsAfter (p .row) sets r) rs)
 
 unfoldable pub setsOf : List ℕ → List ℕ
-setsOf plan = setsOn start (replicate 256 0) (replicate 256 0) (records plan)
+setsOf plan = setsOn start (replicate mostTx 0) (replicate mostTx 0) (records plan)
 
 -- the sets that all records leave, where none is refused: the first one has number n, and row is the Rx frame before it
-unfoldable pub setsFold : ℕ → Row → List ℕ → List Record → List ℕ
+unfoldable pub setsFold : ℕ → RowSoFar → List ℕ → List Record → List ℕ
 setsFold n row sets [] = sets
 setsFold n row sets (r ∷ rs) = setsFold (n + 1) (rowAfter n row r) (setsAfter row sets r) rs

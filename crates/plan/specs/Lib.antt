@@ -1,3 +1,4 @@
+pub mod Limits
 pub mod Refusals
 pub mod Progress
 pub mod Tests
@@ -5,3 +6,4 @@ pub mod Check
 pub mod Claim
 pub mod Motion
 pub mod Rows
+pub mod Shortest

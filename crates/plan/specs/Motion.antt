@@ -4,6 +4,8 @@ use Prim.Native.Nat.{ℕ, _^_, _≤_, _<_}
 use mathlib.Core.List.{List}
 use lib.ListN.{length, getD}
 use Rattle.records.specs.declared.record.Record.{Record}
+use Rattle.records.specs.Kinds.{signalStage}
+use Rattle.plan.specs.Limits.{mostNodes, mostTx, mostRx, mostSignals, mostInFrame, mostDestinations, mostOfSignal}
 use Rattle.plan.specs.declared.progress.Progress.{Progress}
 use Rattle.plan.specs.declared.progress.Next.{Next}
 use Rattle.plan.specs.declared.progress.Next.the-variants.{Go, Refuse}
@@ -11,21 +13,20 @@ use Rattle.plan.specs.Check.{sizesAfter, setsAfter}
 
 -- the bounds that progress keeps
 pub record Fair (p : Progress) : Type 0 where
-  pub at : p .at < 2 ^ 63
-  pub number : p .number ≤ p .at
-  pub nodes : p .counts .nodes ≤ 16
-  pub tx : p .counts .tx ≤ 256
-  pub rx : p .counts .rx ≤ 256
-  pub signals : p .counts .signals ≤ 1024
-  pub destinations : p .counts .destinations ≤ 2048
-  pub inFrame : p .row .signals ≤ 64
-  pub ofSignal : p .row .destinations ≤ 15
+  pub number : p .number < 2 ^ 63
+  pub nodes : p .counts .nodes ≤ mostNodes
+  pub tx : p .counts .tx ≤ mostTx
+  pub rx : p .counts .rx ≤ mostRx
+  pub signals : p .counts .signals ≤ mostSignals
+  pub destinations : p .counts .destinations ≤ mostDestinations
+  pub inFrame : p .row .signals ≤ mostInFrame
+  pub ofSignal : p .row .destinations ≤ mostOfSignal
   pub size : p .row .size ≤ 64
-  pub sized : 5 ≤ p .last → 0 < p .row .size
+  pub sized : signalStage ≤ p .stage → 0 < p .row .size
 
 -- those that the Tx frames' sizes keep
 pub record Tables (sizes : List ℕ) : Type 0 where
-  pub long : length sizes ≡ 256
+  pub long : length sizes ≡ mostTx
   pub small : (i : ℕ) → getD sizes i 0 ≤ 8
 
 -- the Tx frames' sizes and sets after a record that was taken; a refused one leaves them

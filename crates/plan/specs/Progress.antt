@@ -1,56 +1,55 @@
--- What the check knows after a record: where the next one begins, how many there were of each kind, and the Rx frame that is being read.
+-- What the check knows after a record: the number of the next one, how many there were of each kind, and the Rx frame that is being read.
 use Prim.Native.Nat.{ℕ, _+_, _*_}
 use lib.Dec.{eqb}
 use Rattle.base.specs.Pick.{pick}
 use Rattle.records.specs.declared.record.RxFrame.{RxFrame}
 use Rattle.records.specs.declared.record.Record.{Record}
-use Rattle.records.specs.declared.record.Record.the-variants.{Head, Node, Tx, Rx, Signal, Destination, BadKind, Cut, End}
-use Rattle.records.specs.Records.{kindOf, sizeOf}
+use Rattle.records.specs.Views.{onNode, onTx, onRx, onSignal, onDestination, inRow}
+use Rattle.records.specs.Kinds.{signalStage, destinationStage, stageOf}
+use Rattle.plan.specs.Limits.{idRange}
 use Rattle.plan.specs.declared.progress.Counts.{Counts}
-use Rattle.plan.specs.declared.progress.Row.{Row}
+use Rattle.plan.specs.declared.progress.RowSoFar.{RowSoFar}
 use Rattle.plan.specs.declared.progress.Progress.{Progress}
 
 -- (node, ID) as one number, which rises with the node and then with the ID
 unfoldable pub keyOf : RxFrame → ℕ
-keyOf frame = frame .node * 2048 + frame .id
+keyOf frame = frame .node * idRange + frame .id
 
 unfoldable pub counted : Counts → Record → Counts
-counted c (Head order) = c
-counted c (Node type) = record { nodes = c .nodes + 1; tx = c .tx; rx = c .rx; signals = c .signals; destinations = c .destinations }
-counted c (Tx frame) = record { nodes = c .nodes; tx = c .tx + 1; rx = c .rx; signals = c .signals; destinations = c .destinations }
-counted c (Rx frame) = record { nodes = c .nodes; tx = c .tx; rx = c .rx + 1; signals = c .signals; destinations = c .destinations }
-counted c (Signal p s) = record { nodes = c .nodes; tx = c .tx; rx = c .rx; signals = c .signals + 1; destinations = c .destinations }
-counted c (Destination t q) = record { nodes = c .nodes; tx = c .tx; rx = c .rx; signals = c .signals; destinations = c .destinations + 1 }
-counted c BadKind = c
-counted c (Cut kind) = c
-counted c End = c
+counted c r =
+    record {
+      nodes = onNode (c .nodes) (λ body. c .nodes + 1) r;
+      tx = onTx (c .tx) (λ frame. c .tx + 1) r;
+      rx = onRx (c .rx) (λ frame. c .rx + 1) r;
+      signals = onSignal (c .signals) (λ body. c .signals + 1) r;
+      destinations = onDestination (c .destinations) (λ body. c .destinations + 1) r;
+    }
 
 -- an Rx frame of record number n begins a row; an enabled indicator awaits a signal, and then a destination
-unfoldable pub rowAfter : ℕ → Row → Record → Row
-rowAfter n row (Rx frame) =
-    record {
+unfoldable pub rowAfter : ℕ → RowSoFar → Record → RowSoFar
+rowAfter n row r =
+    inRow row
+    (λ frame. record {
       floor = keyOf frame + 1;
       room = 8 * frame .size;
       signals = 0;
       size = 0;
       destinations = 0;
-      awaits = pick (eqb (frame .enable) 1) 5 0;
+      awaits = pick (eqb (frame .enable) 1) signalStage 0;
       position = frame .position;
       source = n;
-    }
-rowAfter n row (Signal p s) =
-    record {
+    })
+    (λ body. record {
       floor = row .floor;
       room = row .room;
       signals = row .signals + 1;
-      size = s;
+      size = body .size;
       destinations = 0;
-      awaits = pick (eqb (row .awaits) 0) 0 6;
+      awaits = pick (eqb (row .awaits) 0) 0 destinationStage;
       position = row .position;
       source = row .source;
-    }
-rowAfter n row (Destination t q) =
-    record {
+    })
+    (λ body. record {
       floor = row .floor;
       room = row .room;
       signals = row .signals;
@@ -59,20 +58,14 @@ rowAfter n row (Destination t q) =
       awaits = 0;
       position = row .position;
       source = row .source;
-    }
-rowAfter n row (Head order) = row
-rowAfter n row (Node type) = row
-rowAfter n row (Tx frame) = row
-rowAfter n row BadKind = row
-rowAfter n row (Cut kind) = row
-rowAfter n row End = row
+    })
+    r
 
 unfoldable pub after : Progress → Record → Progress
 after p r =
     record {
-      at = p .at + sizeOf r;
       number = p .number + 1;
-      last = kindOf r;
+      stage = stageOf r;
       counts = counted (p .counts) r;
       row = rowAfter (p .number) (p .row) r;
     }
@@ -81,9 +74,8 @@ after p r =
 unfoldable pub start : Progress
 start =
     record {
-      at = 0;
       number = 0;
-      last = 0;
+      stage = 0;
       counts = record { nodes = 0; tx = 0; rx = 0; signals = 0; destinations = 0 };
       row = record { floor = 0; room = 0; signals = 0; size = 0; destinations = 0; awaits = 0; position = 0; source = 0 };
     }

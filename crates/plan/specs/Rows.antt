@@ -7,8 +7,8 @@ use Rattle.base.specs.Pick.{pick}
 use Rattle.records.specs.declared.record.TxFrame.{TxFrame}
 use Rattle.records.specs.declared.record.RxFrame.{RxFrame}
 use Rattle.records.specs.declared.record.Record.{Record}
-use Rattle.records.specs.declared.record.Record.the-variants.{Head, Node, Tx, Rx, Signal, Destination, BadKind, Cut, End}
-use Rattle.records.specs.Records.{records, noRx}
+use Rattle.records.specs.Views.{onHead, onNode, onTx, onRx, inRow, noRx}
+use Rattle.records.specs.Records.{records}
 
 -- where the bits of a claim come from: the received payload from a position on, as many as a size says; or the frame's failure
 pub data Source : Type 0 where
@@ -34,16 +34,10 @@ withFailure n (some q) tx claims = record { rx = n; tx = tx; at = q; from = fail
 -- the claims of Rx frame n from its signals on: w is the failure position that is awaited, p and s are the current signal's position and size
 unfoldable pub claimsFrom : ℕ → Option ℕ → ℕ → ℕ → List Record → List Claim
 claimsFrom n w p s [] = []
-claimsFrom n w p s (Signal p′ s′ ∷ rs) = claimsFrom n w p′ s′ rs
-claimsFrom n w p s (Destination t q ∷ rs) =
-    withFailure n w (t .0) (record { rx = n; tx = t .0; at = q; from = copy p s } ∷ claimsFrom n none p s rs)
-claimsFrom n w p s (Head order ∷ rs) = []
-claimsFrom n w p s (Node type ∷ rs) = []
-claimsFrom n w p s (Tx frame ∷ rs) = []
-claimsFrom n w p s (Rx frame ∷ rs) = []
-claimsFrom n w p s (BadKind ∷ rs) = []
-claimsFrom n w p s (Cut kind ∷ rs) = []
-claimsFrom n w p s (End ∷ rs) = []
+claimsFrom n w p s (r ∷ rs) =
+    inRow [] (λ frame. []) (λ body. claimsFrom n w (body .position) (body .size) rs)
+    (λ body. withFailure n w (body .tx .0) (record { rx = n; tx = body .tx .0; at = body .position; from = copy p s } ∷ claimsFrom n none p s rs))
+    r
 
 pub record Row : Type 0 where
   pub number : ℕ
@@ -65,15 +59,7 @@ rowOf n x rs = record { number = n; frame = x; claims = claimsFrom n (awaited x)
 -- the rows, numbered from n
 unfoldable pub rowsFrom : ℕ → List Record → List Row
 rowsFrom n [] = []
-rowsFrom n (Rx x ∷ rs) = rowOf n x rs ∷ rowsFrom (suc n) rs
-rowsFrom n (Head order ∷ rs) = rowsFrom n rs
-rowsFrom n (Node type ∷ rs) = rowsFrom n rs
-rowsFrom n (Tx frame ∷ rs) = rowsFrom n rs
-rowsFrom n (Signal p s ∷ rs) = rowsFrom n rs
-rowsFrom n (Destination t q ∷ rs) = rowsFrom n rs
-rowsFrom n (BadKind ∷ rs) = rowsFrom n rs
-rowsFrom n (Cut kind ∷ rs) = rowsFrom n rs
-rowsFrom n (End ∷ rs) = rowsFrom n rs
+rowsFrom n (r ∷ rs) = onRx (rowsFrom n rs) (λ frame. rowOf n frame rs ∷ rowsFrom (suc n) rs) r
 
 unfoldable pub rowsOf : List ℕ → List Row
 rowsOf plan = rowsFrom 0 (records plan)
@@ -89,15 +75,7 @@ claimsOf plan = allClaims (rowsOf plan)
 -- the Tx frames, in number order
 unfoldable pub txFrames : List Record → List TxFrame
 txFrames [] = []
-txFrames (Tx x ∷ rs) = x ∷ txFrames rs
-txFrames (Head order ∷ rs) = txFrames rs
-txFrames (Node type ∷ rs) = txFrames rs
-txFrames (Rx frame ∷ rs) = txFrames rs
-txFrames (Signal p s ∷ rs) = txFrames rs
-txFrames (Destination t q ∷ rs) = txFrames rs
-txFrames (BadKind ∷ rs) = txFrames rs
-txFrames (Cut kind ∷ rs) = txFrames rs
-txFrames (End ∷ rs) = txFrames rs
+txFrames (r ∷ rs) = onTx (txFrames rs) (λ frame. frame ∷ txFrames rs) r
 
 unfoldable pub txOf : List ℕ → List TxFrame
 txOf plan = txFrames (records plan)
@@ -105,25 +83,9 @@ txOf plan = txFrames (records plan)
 -- how many nodes there are
 unfoldable pub nodesIn : List Record → ℕ
 nodesIn [] = 0
-nodesIn (Node type ∷ rs) = suc (nodesIn rs)
-nodesIn (Head order ∷ rs) = nodesIn rs
-nodesIn (Tx frame ∷ rs) = nodesIn rs
-nodesIn (Rx frame ∷ rs) = nodesIn rs
-nodesIn (Signal p s ∷ rs) = nodesIn rs
-nodesIn (Destination t q ∷ rs) = nodesIn rs
-nodesIn (BadKind ∷ rs) = nodesIn rs
-nodesIn (Cut kind ∷ rs) = nodesIn rs
-nodesIn (End ∷ rs) = nodesIn rs
+nodesIn (r ∷ rs) = onNode (nodesIn rs) (λ body. suc (nodesIn rs)) r
 
 -- the order that the head states
 unfoldable pub orderIn : List Record → ℕ
 orderIn [] = 0
-orderIn (Head order ∷ rs) = order
-orderIn (Node type ∷ rs) = 0
-orderIn (Tx frame ∷ rs) = 0
-orderIn (Rx frame ∷ rs) = 0
-orderIn (Signal p s ∷ rs) = 0
-orderIn (Destination t q ∷ rs) = 0
-orderIn (BadKind ∷ rs) = 0
-orderIn (Cut kind ∷ rs) = 0
-orderIn (End ∷ rs) = 0
+orderIn (r ∷ rs) = onHead 0 (λ order. order) r

@@ -9,63 +9,46 @@ use Rattle.records.specs.declared.record.Eight.{Eight}
 use Rattle.records.specs.declared.record.TxFrame.{TxFrame}
 use Rattle.records.specs.declared.record.RxFrame.{RxFrame}
 use Rattle.records.specs.declared.record.Record.{Record}
-use Rattle.records.specs.declared.record.Record.the-variants.{Head, Node, Tx, Rx, Signal, Destination, BadKind, Cut, End}
+use Rattle.records.specs.declared.record.Record.the-variants.{Head, Node, Tx, Rx, Signal, Destination, Broken}
+use Rattle.records.specs.Views.{byFault, onRx, onSignal, onDestination, onBroken}
+use Rattle.records.specs.Kinds.{nodeStage, txStage, rxStage, signalStage}
+use Rattle.plan.specs.Limits.{mostNodes, mostTx, mostRx, mostSignals, mostInFrame, mostDestinations, mostOfSignal, idRange}
 use Rattle.plan.specs.declared.progress.Counts.{Counts}
-use Rattle.plan.specs.declared.progress.Row.{Row}
+use Rattle.plan.specs.declared.progress.RowSoFar.{RowSoFar}
 use Rattle.plan.specs.Progress.{keyOf}
 
 -- 9, first half: "an enabled indicator's Rx frame is not followed at once by a signal and a destination (judged by kind byte)"
-unfoldable pub followed : Row → ℕ → Bool
-followed row kind = eqb (row .awaits) 0 || eqb (row .awaits) kind
+unfoldable pub followed : RowSoFar → ℕ → Bool
+followed row stage = eqb (row .awaits) 0 || eqb (row .awaits) stage
 
 -- 2: "the kind is not 1–6"
 unfoldable pub isKind : Record → Bool
-isKind BadKind = false
-isKind End = false
-isKind (Head order) = true
-isKind (Node type) = true
-isKind (Tx frame) = true
-isKind (Rx frame) = true
-isKind (Signal p s) = true
-isKind (Destination t q) = true
-isKind (Cut kind) = true
+isKind r = onBroken true (byFault false false (λ kind. true)) r
 
 -- 1: "the record runs past its end"
 unfoldable pub isWhole : Record → Bool
-isWhole (Cut kind) = false
-isWhole (Head order) = true
-isWhole (Node type) = true
-isWhole (Tx frame) = true
-isWhole (Rx frame) = true
-isWhole (Signal p s) = true
-isWhole (Destination t q) = true
-isWhole BadKind = true
-isWhole End = true
+isWhole r = onBroken true (byFault true true (λ kind. false)) r
 
 -- 3: "One head first, then nodes, then Tx frames, then Rx frames, each followed by its signals, each followed by its destinations."
--- The first argument is the kind of the record before, 0 if there is none.
+-- The first argument is the stage of the record before, 0 if there is none.
 unfoldable pub mayStand : ℕ → Record → Bool
-mayStand last (Head order) = eqb last 0
-mayStand last (Node type) = ltb 0 last && leb last 2
-mayStand last (Tx frame) = ltb 0 last && leb last 3
-mayStand last (Rx frame) = ltb 0 last
-mayStand last (Signal p s) = leb 4 last
-mayStand last (Destination t q) = leb 5 last
-mayStand last BadKind = true
-mayStand last (Cut kind) = true
-mayStand last End = true
+mayStand stage (Head order) = eqb stage 0
+mayStand stage (Node body) = ltb 0 stage && leb stage nodeStage
+mayStand stage (Tx frame) = ltb 0 stage && leb stage txStage
+mayStand stage (Rx frame) = ltb 0 stage
+mayStand stage (Signal body) = leb rxStage stage
+mayStand stage (Destination body) = leb signalStage stage
+mayStand stage (Broken fault) = true
 
 -- 4: "At most 16 nodes, 256 Tx frames, 256 Rx frames, 1,024 signals (64 in a frame), 2,048 destinations (15 for a signal)."
-unfoldable pub hasRoom : Counts → Row → Record → Bool
+unfoldable pub hasRoom : Counts → RowSoFar → Record → Bool
 hasRoom c row (Head order) = true
-hasRoom c row (Node type) = ltb (c .nodes) 16
-hasRoom c row (Tx frame) = ltb (c .tx) 256
-hasRoom c row (Rx frame) = ltb (c .rx) 256
-hasRoom c row (Signal p s) = ltb (c .signals) 1024 && ltb (row .signals) 64
-hasRoom c row (Destination t q) = ltb (c .destinations) 2048 && ltb (row .destinations) 15
-hasRoom c row BadKind = true
-hasRoom c row (Cut kind) = true
-hasRoom c row End = true
+hasRoom c row (Node body) = ltb (c .nodes) mostNodes
+hasRoom c row (Tx frame) = ltb (c .tx) mostTx
+hasRoom c row (Rx frame) = ltb (c .rx) mostRx
+hasRoom c row (Signal body) = ltb (c .signals) mostSignals && ltb (row .signals) mostInFrame
+hasRoom c row (Destination body) = ltb (c .destinations) mostDestinations && ltb (row .destinations) mostOfSignal
+hasRoom c row (Broken fault) = true
 
 -- 5: "prescaler 1, 2, 10 or 20"
 unfoldable pub isPrescaler : ℕ → Bool
@@ -87,7 +70,7 @@ zeroPast size b =
 unfoldable pub txInRange : ℕ → TxFrame → Bool
 txInRange nodes x =
     ltb (x .node) nodes
-    && ltb (x .id) 2048
+    && ltb (x .id) idRange
     && leb (x .size) 8
     && isPrescaler (x .prescaler)
     && leb (x .flags) 3
@@ -97,7 +80,7 @@ txInRange nodes x =
 unfoldable pub rxInRange : ℕ → RxFrame → Bool
 rxInRange nodes x =
     ltb (x .node) nodes
-    && ltb (x .id) 2048
+    && ltb (x .id) idRange
     && leb (x .size) 8
     && isPrescaler (x .prescaler)
     && leb (x .enable) 1
@@ -107,72 +90,36 @@ rxInRange nodes x =
 -- "order 0–1; type 0; .. positions 0–63; signal size 1–64"
 unfoldable pub inRange : ℕ → Record → Bool
 inRange nodes (Head order) = leb order 1
-inRange nodes (Node type) = eqb type 0
+inRange nodes (Node body) = eqb (body .of) 0
 inRange nodes (Tx frame) = txInRange nodes frame
 inRange nodes (Rx frame) = rxInRange nodes frame
-inRange nodes (Signal p s) = leb p 63 && ltb 0 s && leb s 64
-inRange nodes (Destination t q) = leb q 63
-inRange nodes BadKind = true
-inRange nodes (Cut kind) = true
-inRange nodes End = true
+inRange nodes (Signal body) = leb (body .position) 63 && ltb 0 (body .size) && leb (body .size) 64
+inRange nodes (Destination body) = leb (body .position) 63
+inRange nodes (Broken fault) = true
 
 -- 6: "an Rx frame's (node, ID) is not above that of the one before"
-unfoldable pub rises : Row → Record → Bool
-rises row (Rx frame) = leb (row .floor) (keyOf frame)
-rises row (Head order) = true
-rises row (Node type) = true
-rises row (Tx frame) = true
-rises row (Signal p s) = true
-rises row (Destination t q) = true
-rises row BadKind = true
-rises row (Cut kind) = true
-rises row End = true
+unfoldable pub rises : RowSoFar → Record → Bool
+rises row r = onRx true (λ frame. leb (row .floor) (keyOf frame)) r
 
 -- 7: "a signal or destination passes its frame's data, or the Tx frame does not exist". The sizes are those of the Tx frames.
-unfoldable pub inData : Counts → Row → List ℕ → Record → Bool
-inData c row sizes (Signal p s) = leb (p + s) (row .room)
-inData c row sizes (Destination t q) = ltb (t .0) (c .tx) && leb (q + row .size) (8 * getD sizes (t .0) 0)
-inData c row sizes (Head order) = true
-inData c row sizes (Node type) = true
-inData c row sizes (Tx frame) = true
-inData c row sizes (Rx frame) = true
-inData c row sizes BadKind = true
-inData c row sizes (Cut kind) = true
-inData c row sizes End = true
+unfoldable pub inData : Counts → RowSoFar → List ℕ → Record → Bool
+inData c row sizes r =
+    onSignal
+    (onDestination true
+    (λ body. ltb (body .tx .0) (c .tx) && leb (body .position + row .size) (8 * getD sizes (body .tx .0) 0)) r)
+    (λ body. leb (body .position + body .size) (row .room)) r
 
 -- 8: "a bit would have two owners". The sets are those of the Tx frames' owned bits.
-unfoldable pub isFree : Row → List ℕ → Record → Bool
-isFree row sets (Destination t q) = not (clash (getD sets (t .0) 0) q (row .size))
-isFree row sets (Head order) = true
-isFree row sets (Node type) = true
-isFree row sets (Tx frame) = true
-isFree row sets (Rx frame) = true
-isFree row sets (Signal p s) = true
-isFree row sets BadKind = true
-isFree row sets (Cut kind) = true
-isFree row sets End = true
+unfoldable pub isFree : RowSoFar → List ℕ → Record → Bool
+isFree row sets r = onDestination true (λ body. not (clash (getD sets (body .tx .0) 0) (body .position) (row .size))) r
 
 -- 9, second half: "or its position passes the Tx data"
-unfoldable pub indicatorInData : Row → List ℕ → Record → Bool
-indicatorInData row sizes (Destination t q) = eqb (row .awaits) 0 || ltb (row .position) (8 * getD sizes (t .0) 0)
-indicatorInData row sizes (Head order) = true
-indicatorInData row sizes (Node type) = true
-indicatorInData row sizes (Tx frame) = true
-indicatorInData row sizes (Rx frame) = true
-indicatorInData row sizes (Signal p s) = true
-indicatorInData row sizes BadKind = true
-indicatorInData row sizes (Cut kind) = true
-indicatorInData row sizes End = true
+unfoldable pub indicatorInData : RowSoFar → List ℕ → Record → Bool
+indicatorInData row sizes r = onDestination true (λ body. eqb (row .awaits) 0 || ltb (row .position) (8 * getD sizes (body .tx .0) 0)) r
 
 -- 8, for the failure bit, which comes after the destination's own
-unfoldable pub indicatorIsFree : Row → List ℕ → Record → Bool
-indicatorIsFree row sets (Destination t q) =
-    eqb (row .awaits) 0 || not (clash (owned (getD sets (t .0) 0) q (row .size)) (row .position) 1)
-indicatorIsFree row sets (Head order) = true
-indicatorIsFree row sets (Node type) = true
-indicatorIsFree row sets (Tx frame) = true
-indicatorIsFree row sets (Rx frame) = true
-indicatorIsFree row sets (Signal p s) = true
-indicatorIsFree row sets BadKind = true
-indicatorIsFree row sets (Cut kind) = true
-indicatorIsFree row sets End = true
+unfoldable pub indicatorIsFree : RowSoFar → List ℕ → Record → Bool
+indicatorIsFree row sets r =
+    onDestination true
+    (λ body. eqb (row .awaits) 0 || not (clash (owned (getD sets (body .tx .0) 0) (body .position) (row .size)) (row .position) 1))
+    r

@@ -1,50 +1,43 @@
 // The check of a plan, from its first record to the first bad one or the end.
+use crate::limits::MOST_TX;
 use crate::progress::Counts;
 use crate::progress::Next;
 use crate::progress::Progress;
-use crate::progress::Row;
+use crate::progress::RowSoFar;
 use crate::steps;
 use crate::verdict::Reason;
 use crate::verdict::Verdict;
+use records::decode::stage_of;
 use records::reader::read_record;
+use records::record::Fault;
 use records::record::Record;
 ghost use mathlib.Core.Path.{_≡_};
 ghost use lib.ListN.{length, replicate};
-ghost use Rattle.records.specs.Records.{kindOf};
+ghost use Rattle.plan.specs.Limits.{mostTx};
 ghost use Rattle.plan.specs.Progress.{start};
-ghost use Rattle.plan.specs.Check.{judged, ended, checkPlan, setsOf};
+ghost use Rattle.plan.specs.Check.{faultReason, judged, ended, checkPlan, setsOf};
 ghost use Rattle.plan.specs.Motion.{Fair, Tables, sizesThen, setsThen};
 
-// The kind that a record's kind byte says; 0 where it is no kind.
-fn kind_of(r: Record) -> u8
-    ensures { λ k. ⌜ k ≡ kindOf r ⌝ }
+// A cut record is too short; at any other fault there is no kind.
+fn fault_reason(fault: Fault) -> Reason
+    ensures { λ r. ⌜ r ≡ faultReason fault ⌝ }
 {
-    match r {
-        Record::Head { order: _ } => 1,
-        Record::Node { of: _ } => 2,
-        Record::Tx(_) => 3,
-        Record::Rx(_) => 4,
-        Record::Signal {
-            position: _,
-            size: _,
-        } => 5,
-        Record::Destination { tx: _, position: _ } => 6,
-        Record::BadKind => 0,
-        Record::Cut { kind } => kind,
-        Record::End => 0,
+    if let Fault::Cut { kind: _ } = fault {
+        return Reason::Short;
     }
+    Reason::Kind
 }
 
 // One record: the missing follower first, then what the kind asks.
 fn step(p: Progress, r: Record, sizes: &mut [u8], sets: &mut [u64]) -> Next
-    requires { ⌜ (Fair p) × (Tables (now sizes)) × (length (now sets) ≡ 256) ⌝ }
+    requires { ⌜ (Fair p) × (Tables (now sizes)) × (length (now sets) ≡ mostTx) ⌝ }
     ensures next { λ n. ⌜ n ≡ judged p (now (sizes .entry)) (now (sets .entry)) r ⌝ }
     ensures sizes { λ n. ⌜ (now (sizes .exit) ≡ sizesThen n p (now (sizes .entry)) r) × (Tables (now (sizes .exit))) ⌝ }
     ensures sets { λ n. ⌜ now (sets .exit) ≡ setsThen n p (now (sets .entry)) r ⌝ }
 {
     let row = p.row;
-    let kind = kind_of(r);
-    let followed = (row.awaits == 0) | (row.awaits == kind);
+    let stage = stage_of(r);
+    let followed = (row.awaits == 0) | (row.awaits == stage);
     if !followed {
         return Next::Refuse {
             reason: Reason::Indicator,
@@ -53,29 +46,12 @@ fn step(p: Progress, r: Record, sizes: &mut [u8], sets: &mut [u64]) -> Next
     }
     match r {
         Record::Head { order } => steps::head_step(p, order),
-        Record::Node { of } => steps::node_step(p, of),
+        Record::Node(body) => steps::node_step(p, body),
         Record::Tx(frame) => steps::tx_step(p, frame, sizes),
         Record::Rx(frame) => steps::rx_step(p, frame),
-        Record::Signal { position, size } => steps::signal_step(p, position, size),
-        Record::Destination { tx, position } => steps::destination_step(
-            p,
-            tx,
-            position,
-            sizes,
-            sets,
-        ),
-        Record::BadKind => Next::Refuse {
-            reason: Reason::Kind,
-            record: p.number,
-        },
-        Record::Cut { kind: _ } => Next::Refuse {
-            reason: Reason::Short,
-            record: p.number,
-        },
-        Record::End => Next::Refuse {
-            reason: Reason::Kind,
-            record: p.number,
-        },
+        Record::Signal(body) => steps::signal_step(p, body),
+        Record::Destination(body) => steps::destination_step(p, body, sizes, sets),
+        Record::Broken(fault) => steps::refuse(p, fault_reason(fault)),
     }
 }
 
@@ -115,7 +91,7 @@ fn begin() -> Progress
         signals: 0,
         destinations: 0,
     };
-    let row = Row {
+    let row = RowSoFar {
         floor: 0,
         room: 0,
         signals: 0,
@@ -126,9 +102,8 @@ fn begin() -> Progress
         source: 0,
     };
     Progress {
-        at: 0,
         number: 0,
-        last: 0,
+        stage: 0,
         counts,
         row,
     }
@@ -137,19 +112,21 @@ fn begin() -> Progress
 // Whether a plan is good, with its counts; or why it is refused, with the number of the record. `sets` becomes the sets of owned bits, one for
 // each Tx frame, that the check joined.
 pub fn check_with(plan: &[u8], sets: &mut [u64]) -> Verdict
-    requires { ⌜ now sets ≡ replicate 256 0 ⌝ }
+    requires { ⌜ now sets ≡ replicate mostTx 0 ⌝ }
     ensures verdict { λ r. ⌜ r ≡ checkPlan (now (plan .entry)) ⌝ }
     ensures sets { λ r. ⌜ now (sets .exit) ≡ setsOf (now (plan .entry)) ⌝ }
 {
-    let mut sizes = [0u8; 256];
+    let mut sizes = [0u8; MOST_TX];
     let mut p = begin();
-    while p.at < plan.len() {
-        let at = p.at;
-        let record = read_record(plan, at);
-        let next = step(p, record, &mut sizes, sets);
+    let mut at = 0;
+    while at < plan.len() {
+        let read = read_record(plan, at);
+        let found = read.found;
+        let next = step(p, found, &mut sizes, sets);
         match next {
             Next::Go(q) => {
                 p = q;
+                at = read.next;
             }
             Next::Refuse { reason, record } => {
                 return Verdict::Refused { reason, record };
@@ -163,6 +140,6 @@ pub fn check_with(plan: &[u8], sets: &mut [u64]) -> Verdict
 pub fn check_plan(plan: &[u8]) -> Verdict
     ensures { λ r. ⌜ r ≡ checkPlan (now (plan .entry)) ⌝ }
 {
-    let mut sets = [0u64; 256];
+    let mut sets = [0u64; MOST_TX];
     check_with(plan, &mut sets)
 }

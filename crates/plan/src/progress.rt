@@ -11,7 +11,7 @@ pub struct Counts {
 }
 
 // The Rx frame that is being read.
-pub struct Row {
+pub struct RowSoFar {
     // the lowest key that the next Rx frame may have
     pub floor: usize,
     // how many bits its data has
@@ -20,20 +20,19 @@ pub struct Row {
     pub signals: usize,
     pub size: usize,
     pub destinations: usize,
-    // the kind that must follow at once, 0 if none must; the failure position, and the number of the Rx frame's record
+    // the stage that must follow at once, 0 if none must; the failure position, and the number of the Rx frame's record
     pub awaits: u8,
     pub position: u8,
     pub source: usize,
 }
 
 pub struct Progress {
-    // where the next record begins, and its number
-    pub at: usize,
+    // the number of the next record
     pub number: usize,
-    // the kind of the record before, 0 if there is none
-    pub last: u8,
+    // the stage of the record before, 0 if there is none
+    pub stage: u8,
     pub counts: Counts,
-    pub row: Row,
+    pub row: RowSoFar,
 }
 
 // What a record does: the check goes on, or the plan is refused.

@@ -1,79 +1,97 @@
 // What each kind of record does to the check: one function for each kind, with its tests in document 01's order.
 use crate::claim::Claimed;
 use crate::claim::claim;
+use crate::limits::ID_RANGE;
+use crate::limits::MOST_DESTINATIONS;
+use crate::limits::MOST_IN_FRAME;
+use crate::limits::MOST_NODES;
+use crate::limits::MOST_OF_SIGNAL;
+use crate::limits::MOST_RX;
+use crate::limits::MOST_SIGNALS;
+use crate::limits::MOST_TX;
 use crate::progress::Counts;
 use crate::progress::Next;
 use crate::progress::Progress;
-use crate::progress::Row;
+use crate::progress::RowSoFar;
 use crate::tests;
 use crate::verdict::Reason;
 use base::wide;
+use records::decode::DESTINATION_STAGE;
+use records::decode::HEAD_STAGE;
+use records::decode::NODE_STAGE;
+use records::decode::RX_STAGE;
+use records::decode::SIGNAL_STAGE;
+use records::decode::TX_STAGE;
+use records::record::DestinationBody;
+use records::record::NodeBody;
 use records::record::Record;
 use records::record::RxFrame;
+use records::record::SignalBody;
 use records::record::TxFrame;
-use records::record::TxNumber;
 ghost use mathlib.Core.Path.{_≡_};
 ghost use mathlib.Core.List.{[]};
 ghost use lib.ListN.{length};
-ghost use Rattle.records.specs.Records.{kindOf, sizeOf};
 ghost use Rattle.records.specs.declared.record.Record.the-variants.{Head, Node, Tx, Rx, Signal, Destination};
+ghost use Prim.Native.Nat.{_+_};
+ghost use Rattle.plan.specs.declared.progress.Next.the-variants.{Go, Refuse};
+ghost use Rattle.plan.specs.Limits.{mostTx};
 ghost use Rattle.plan.specs.Check.{placed, judged};
 ghost use Rattle.plan.specs.Motion.{Fair, Tables, sizesThen, setsThen};
 
-pub fn head_step(p: Progress, order: u8) -> Next
-    requires { ⌜ Fair p ⌝ }
-    ensures { λ r. ⌜ r ≡ placed p [] [] (Head order) ⌝ }
+// A refusal names the record that was refused.
+pub fn refuse(p: Progress, reason: Reason) -> Next
+    ensures { λ r. ⌜ r ≡ Refuse reason (p .number) ⌝ }
 {
-    let stands = p.last == 0;
-    if !stands {
-        return Next::Refuse {
-            reason: Reason::Place,
-            record: p.number,
-        };
+    Next::Refuse {
+        reason,
+        record: p.number,
     }
-    let in_range = order <= 1;
-    if !in_range {
-        return Next::Refuse {
-            reason: Reason::Range,
-            record: p.number,
-        };
-    }
-    let counts = p.counts;
-    let row = p.row;
+}
+
+// The check goes on behind a record of this stage.
+fn go_on(p: Progress, stage: u8, counts: Counts, row: RowSoFar) -> Next
+    requires { ⌜ Fair p ⌝ }
+    ensures { λ r. ⌜ r ≡ Go (record { number = p .number + 1; stage = stage; counts = counts; row = row }) ⌝ }
+{
     Next::Go(Progress {
-        at: p.at + 2,
         number: p.number + 1,
-        last: 1,
+        stage,
         counts,
         row,
     })
 }
 
-pub fn node_step(p: Progress, of: u8) -> Next
+pub fn head_step(p: Progress, order: u8) -> Next
     requires { ⌜ Fair p ⌝ }
-    ensures { λ r. ⌜ r ≡ placed p [] [] (Node of) ⌝ }
+    ensures { λ r. ⌜ r ≡ placed p [] [] (Head order) ⌝ }
+{
+    let stands = p.stage == 0;
+    if !stands {
+        return refuse(p, Reason::Place);
+    }
+    let in_range = order <= 1;
+    if !in_range {
+        return refuse(p, Reason::Range);
+    }
+    go_on(p, HEAD_STAGE, p.counts, p.row)
+}
+
+pub fn node_step(p: Progress, body: NodeBody) -> Next
+    requires { ⌜ Fair p ⌝ }
+    ensures { λ r. ⌜ r ≡ placed p [] [] (Node body) ⌝ }
 {
     let c = p.counts;
-    let stands = (0 < p.last) & (p.last <= 2);
+    let stands = (0 < p.stage) & (p.stage <= NODE_STAGE);
     if !stands {
-        return Next::Refuse {
-            reason: Reason::Place,
-            record: p.number,
-        };
+        return refuse(p, Reason::Place);
     }
-    let has_room = c.nodes < 16;
+    let has_room = c.nodes < MOST_NODES;
     if !has_room {
-        return Next::Refuse {
-            reason: Reason::Count,
-            record: p.number,
-        };
+        return refuse(p, Reason::Count);
     }
-    let in_range = of == 0;
+    let in_range = body.of == 0;
     if !in_range {
-        return Next::Refuse {
-            reason: Reason::Range,
-            record: p.number,
-        };
+        return refuse(p, Reason::Range);
     }
     let counts = Counts {
         nodes: c.nodes + 1,
@@ -82,14 +100,7 @@ pub fn node_step(p: Progress, of: u8) -> Next
         signals: c.signals,
         destinations: c.destinations,
     };
-    let row = p.row;
-    Next::Go(Progress {
-        at: p.at + 2,
-        number: p.number + 1,
-        last: 2,
-        counts,
-        row,
-    })
+    go_on(p, NODE_STAGE, counts, p.row)
 }
 
 pub fn tx_step(p: Progress, x: TxFrame, sizes: &mut [u8]) -> Next
@@ -98,26 +109,17 @@ pub fn tx_step(p: Progress, x: TxFrame, sizes: &mut [u8]) -> Next
     ensures sizes { λ r. ⌜ (now (sizes .exit) ≡ sizesThen r p (now (sizes .entry)) (Tx x)) × (Tables (now (sizes .exit))) ⌝ }
 {
     let c = p.counts;
-    let stands = (0 < p.last) & (p.last <= 3);
+    let stands = (0 < p.stage) & (p.stage <= TX_STAGE);
     if !stands {
-        return Next::Refuse {
-            reason: Reason::Place,
-            record: p.number,
-        };
+        return refuse(p, Reason::Place);
     }
-    let has_room = c.tx < 256;
+    let has_room = c.tx < MOST_TX;
     if !has_room {
-        return Next::Refuse {
-            reason: Reason::Count,
-            record: p.number,
-        };
+        return refuse(p, Reason::Count);
     }
     let in_range = tests::tx_in_range(c.nodes, x);
     if !in_range {
-        return Next::Refuse {
-            reason: Reason::Range,
-            record: p.number,
-        };
+        return refuse(p, Reason::Range);
     }
     let t = c.tx;
     sizes[t] = x.size;
@@ -128,14 +130,7 @@ pub fn tx_step(p: Progress, x: TxFrame, sizes: &mut [u8]) -> Next
         signals: c.signals,
         destinations: c.destinations,
     };
-    let row = p.row;
-    Next::Go(Progress {
-        at: p.at + 17,
-        number: p.number + 1,
-        last: 3,
-        counts,
-        row,
-    })
+    go_on(p, TX_STAGE, counts, p.row)
 }
 
 pub fn rx_step(p: Progress, x: RxFrame) -> Next
@@ -144,34 +139,22 @@ pub fn rx_step(p: Progress, x: RxFrame) -> Next
 {
     let c = p.counts;
     let old = p.row;
-    let stands = 0 < p.last;
+    let stands = 0 < p.stage;
     if !stands {
-        return Next::Refuse {
-            reason: Reason::Place,
-            record: p.number,
-        };
+        return refuse(p, Reason::Place);
     }
-    let has_room = c.rx < 256;
+    let has_room = c.rx < MOST_RX;
     if !has_room {
-        return Next::Refuse {
-            reason: Reason::Count,
-            record: p.number,
-        };
+        return refuse(p, Reason::Count);
     }
     let in_range = tests::rx_in_range(c.nodes, x);
     if !in_range {
-        return Next::Refuse {
-            reason: Reason::Range,
-            record: p.number,
-        };
+        return refuse(p, Reason::Range);
     }
-    let key = wide(x.node) * 2048 + x.id;
+    let key = wide(x.node) * ID_RANGE + x.id;
     let rises = old.floor <= key;
     if !rises {
-        return Next::Refuse {
-            reason: Reason::Order,
-            record: p.number,
-        };
+        return refuse(p, Reason::Order);
     }
     let counts = Counts {
         nodes: c.nodes,
@@ -182,7 +165,7 @@ pub fn rx_step(p: Progress, x: RxFrame) -> Next
     };
     let room = 8 * wide(x.size);
     let awaits = tests::awaited_by(x.enable);
-    let row = Row {
+    let row = RowSoFar {
         floor: key + 1,
         room,
         signals: 0,
@@ -192,49 +175,31 @@ pub fn rx_step(p: Progress, x: RxFrame) -> Next
         position: x.position,
         source: p.number,
     };
-    Next::Go(Progress {
-        at: p.at + 11,
-        number: p.number + 1,
-        last: 4,
-        counts,
-        row,
-    })
+    go_on(p, RX_STAGE, counts, row)
 }
 
-pub fn signal_step(p: Progress, position: u8, size: u8) -> Next
+pub fn signal_step(p: Progress, body: SignalBody) -> Next
     requires { ⌜ Fair p ⌝ }
-    ensures { λ r. ⌜ r ≡ placed p [] [] (Signal position size) ⌝ }
+    ensures { λ r. ⌜ r ≡ placed p [] [] (Signal body) ⌝ }
 {
     let c = p.counts;
     let old = p.row;
-    let stands = 4 <= p.last;
+    let stands = RX_STAGE <= p.stage;
     if !stands {
-        return Next::Refuse {
-            reason: Reason::Place,
-            record: p.number,
-        };
+        return refuse(p, Reason::Place);
     }
-    let has_room = (c.signals < 1024) & (old.signals < 64);
+    let has_room = (c.signals < MOST_SIGNALS) & (old.signals < MOST_IN_FRAME);
     if !has_room {
-        return Next::Refuse {
-            reason: Reason::Count,
-            record: p.number,
-        };
+        return refuse(p, Reason::Count);
     }
-    let in_range = (position <= 63) & (0 < size) & (size <= 64);
+    let in_range = (body.position <= 63) & (0 < body.size) & (body.size <= 64);
     if !in_range {
-        return Next::Refuse {
-            reason: Reason::Range,
-            record: p.number,
-        };
+        return refuse(p, Reason::Range);
     }
-    let bits = wide(size);
-    let in_data = wide(position) + bits <= old.room;
+    let bits = wide(body.size);
+    let in_data = wide(body.position) + bits <= old.room;
     if !in_data {
-        return Next::Refuse {
-            reason: Reason::Data,
-            record: p.number,
-        };
+        return refuse(p, Reason::Data);
     }
     let counts = Counts {
         nodes: c.nodes,
@@ -244,7 +209,7 @@ pub fn signal_step(p: Progress, position: u8, size: u8) -> Next
         destinations: c.destinations,
     };
     let awaits = tests::awaited_after(old.awaits);
-    let row = Row {
+    let row = RowSoFar {
         floor: old.floor,
         room: old.room,
         signals: old.signals + 1,
@@ -254,70 +219,41 @@ pub fn signal_step(p: Progress, position: u8, size: u8) -> Next
         position: old.position,
         source: old.source,
     };
-    Next::Go(Progress {
-        at: p.at + 3,
-        number: p.number + 1,
-        last: 5,
-        counts,
-        row,
-    })
+    go_on(p, SIGNAL_STAGE, counts, row)
 }
 
-pub fn destination_step(
-    p: Progress,
-    tx: TxNumber,
-    position: u8,
-    sizes: &[u8],
-    sets: &mut [u64],
-) -> Next
-    requires { ⌜ (Fair p) × (Tables (now sizes)) × (length (now sets) ≡ 256) ⌝ }
-    ensures next { λ r. ⌜ r ≡ placed p (now (sizes .entry)) (now (sets .entry)) (Destination tx position) ⌝ }
-    ensures sets { λ r. ⌜ now (sets .exit) ≡ setsThen r p (now (sets .entry)) (Destination tx position) ⌝ }
+pub fn destination_step(p: Progress, body: DestinationBody, sizes: &[u8], sets: &mut [u64]) -> Next
+    requires { ⌜ (Fair p) × (Tables (now sizes)) × (length (now sets) ≡ mostTx) ⌝ }
+    ensures next { λ r. ⌜ r ≡ placed p (now (sizes .entry)) (now (sets .entry)) (Destination body) ⌝ }
+    ensures sets { λ r. ⌜ now (sets .exit) ≡ setsThen r p (now (sets .entry)) (Destination body) ⌝ }
 {
     let c = p.counts;
     let old = p.row;
-    let stands = 5 <= p.last;
+    let stands = SIGNAL_STAGE <= p.stage;
     if !stands {
-        return Next::Refuse {
-            reason: Reason::Place,
-            record: p.number,
-        };
+        return refuse(p, Reason::Place);
     }
-    let has_room = (c.destinations < 2048) & (old.destinations < 15);
+    let has_room = (c.destinations < MOST_DESTINATIONS) & (old.destinations < MOST_OF_SIGNAL);
     if !has_room {
-        return Next::Refuse {
-            reason: Reason::Count,
-            record: p.number,
-        };
+        return refuse(p, Reason::Count);
     }
-    let in_range = position <= 63;
+    let in_range = body.position <= 63;
     if !in_range {
-        return Next::Refuse {
-            reason: Reason::Range,
-            record: p.number,
-        };
+        return refuse(p, Reason::Range);
     }
+    let tx = body.tx;
     let t = tx.0;
-    let q = wide(position);
+    let q = wide(body.position);
     if c.tx <= t {
-        return Next::Refuse {
-            reason: Reason::Data,
-            record: p.number,
-        };
+        return refuse(p, Reason::Data);
     }
     let room = 8 * wide(sizes[t]);
     if room < q + old.size {
-        return Next::Refuse {
-            reason: Reason::Data,
-            record: p.number,
-        };
+        return refuse(p, Reason::Data);
     }
     let claimed = claim(sets[t], q, old.size, old.awaits, old.position, room);
     match claimed {
-        Claimed::Refused(reason) => Next::Refuse {
-            reason,
-            record: p.number,
-        },
+        Claimed::Refused(reason) => refuse(p, reason),
         Claimed::Set(set) => {
             sets[t] = set;
             let counts = Counts {
@@ -327,7 +263,7 @@ pub fn destination_step(
                 signals: c.signals,
                 destinations: c.destinations + 1,
             };
-            let row = Row {
+            let row = RowSoFar {
                 floor: old.floor,
                 room: old.room,
                 signals: old.signals,
@@ -337,13 +273,7 @@ pub fn destination_step(
                 position: old.position,
                 source: old.source,
             };
-            Next::Go(Progress {
-                at: p.at + 4,
-                number: p.number + 1,
-                last: 6,
-                counts,
-                row,
-            })
+            go_on(p, DESTINATION_STAGE, counts, row)
         }
     }
 }

@@ -1,10 +1,14 @@
 // Tests of a frame's fields, and what an indicator awaits.
+use crate::limits::ID_RANGE;
+use records::decode::DESTINATION_STAGE;
+use records::decode::SIGNAL_STAGE;
 use records::record::Eight;
 use records::record::RxFrame;
 use records::record::TxFrame;
 ghost use mathlib.Core.Path.{_≡_};
 ghost use lib.Dec.{eqb};
 ghost use Rattle.base.specs.Pick.{pick};
+ghost use Rattle.records.specs.Kinds.{signalStage, destinationStage};
 ghost use Rattle.plan.specs.Tests.{isPrescaler, zeroPast, txInRange, rxInRange};
 
 fn is_prescaler(p: u8) -> bool
@@ -34,7 +38,7 @@ pub fn tx_in_range(nodes: usize, x: TxFrame) -> bool
     let prescaled = is_prescaler(x.prescaler);
     let payload = x.payload;
     let zero = zero_past(x.size, payload);
-    (node < nodes) & (x.id < 2048) & (x.size <= 8) & prescaled & (x.flags <= 3) & zero
+    (node < nodes) & (x.id < ID_RANGE) & (x.size <= 8) & prescaled & (x.flags <= 3) & zero
 }
 
 pub fn rx_in_range(nodes: usize, x: RxFrame) -> bool
@@ -43,7 +47,7 @@ pub fn rx_in_range(nodes: usize, x: RxFrame) -> bool
     let node = base::wide(x.node);
     let prescaled = is_prescaler(x.prescaler);
     (node < nodes)
-        & (x.id < 2048)
+        & (x.id < ID_RANGE)
         & (x.size <= 8)
         & prescaled
         & (x.enable <= 1)
@@ -51,22 +55,22 @@ pub fn rx_in_range(nodes: usize, x: RxFrame) -> bool
         & (x.long <= 15)
 }
 
-// The kind that must follow an Rx frame at once: a signal, where its indicator is enabled.
+// The stage that must follow an Rx frame at once: a signal, where its indicator is enabled.
 pub fn awaited_by(enable: u8) -> u8
-    ensures { λ r. ⌜ r ≡ pick (eqb enable 1) 5 0 ⌝ }
+    ensures { λ r. ⌜ r ≡ pick (eqb enable 1) signalStage 0 ⌝ }
 {
     if enable == 1 {
-        return 5;
+        return SIGNAL_STAGE;
     }
     0
 }
 
-// The kind that must follow a signal at once: a destination, where the signal itself was awaited.
+// The stage that must follow a signal at once: a destination, where the signal itself was awaited.
 pub fn awaited_after(awaits: u8) -> u8
-    ensures { λ r. ⌜ r ≡ pick (eqb awaits 0) 0 6 ⌝ }
+    ensures { λ r. ⌜ r ≡ pick (eqb awaits 0) 0 destinationStage ⌝ }
 {
     if awaits == 0 {
         return 0;
     }
-    6
+    DESTINATION_STAGE
 }

@@ -1,5 +1,4 @@
 -- What the search finds: a row that it finds has the key, whatever the rows; and where the keys rise it finds the row that has it.
--- Assumes nothing.
 use mathlib.Core.Path.{_≡_, refl, sym, _∙_}
 use mathlib.Core.Logic.{_⊎_, inl, inr, ⊎-elim, dite}
 use mathlib.Core.List.{List}
@@ -14,7 +13,8 @@ use Rattle.base.proofs.Picks.{by-eqb, both}
 use Rattle.records.specs.declared.record.RxNumber.{RxNumber}
 use Rattle.reception.specs.declared.lookup.Found.{Found}
 use Rattle.reception.specs.declared.lookup.Found.the-variants.{At, Nothing}
-use Rattle.reception.specs.Lookup.{keyAt, lookOnce, lookIn}
+use Rattle.area.specs.Layout.{rowSize, keyAt}
+use Rattle.reception.specs.Lookup.{lookOnce, lookIn}
 use Rattle.reception.proofs.Search.{lower, upper, hit, low, high, found-among}
 
 -- the keys of the n rows rise
@@ -23,27 +23,27 @@ pub record Rising (rows : List ℕ) (n : ℕ) : Type 0 where
 
 -- ---- the keys of a half
 
-key-take : (rows : List ℕ) (m i : ℕ) → i < m → keyAt (take (6 * m) rows) i ≡ keyAt rows i
+key-take : (rows : List ℕ) (m i : ℕ) → i < m → keyAt (take (rowSize * m) rows) i ≡ keyAt rows i
 key-take rows m i h =
     rw (
-      getD-take (6 * m) rows (6 * i) 0 (omega arith),
-      getD-take (6 * m) rows (6 * i + 1) 0 (omega arith),
-      getD-take (6 * m) rows (6 * i + 2) 0 (omega arith),
-      getD-take (6 * m) rows (6 * i + 2 + 1) 0 (omega arith),
+      getD-take (rowSize * m) rows (rowSize * i) 0 (omega arith),
+      getD-take (rowSize * m) rows (rowSize * i + 1) 0 (omega arith),
+      getD-take (rowSize * m) rows (rowSize * i + 2) 0 (omega arith),
+      getD-take (rowSize * m) rows (rowSize * i + 2 + 1) 0 (omega arith),
     )
 
-key-drop : (rows : List ℕ) (m i : ℕ) → keyAt (drop (6 * m + 6) rows) i ≡ keyAt rows (m + 1 + i)
+key-drop : (rows : List ℕ) (m i : ℕ) → keyAt (drop (rowSize * m + rowSize) rows) i ≡ keyAt rows (m + 1 + i)
 key-drop rows m i =
-    let from = 6 * m + 6 in
-    let at₀ : from + 6 * i ≡ 6 * (m + 1 + i) = omega arith in
-    let at₁ : from + (6 * i + 1) ≡ 6 * (m + 1 + i) + 1 = omega arith in
-    let at₂ : from + (6 * i + 2) ≡ 6 * (m + 1 + i) + 2 = omega arith in
-    let at₃ : from + (6 * i + 2 + 1) ≡ 6 * (m + 1 + i) + 2 + 1 = omega arith in
+    let from = rowSize * m + rowSize in
+    let at₀ : from + rowSize * i ≡ rowSize * (m + 1 + i) = omega arith in
+    let at₁ : from + (rowSize * i + 1) ≡ rowSize * (m + 1 + i) + 1 = omega arith in
+    let at₂ : from + (rowSize * i + 2) ≡ rowSize * (m + 1 + i) + 2 = omega arith in
+    let at₃ : from + (rowSize * i + 2 + 1) ≡ rowSize * (m + 1 + i) + 2 + 1 = omega arith in
     rw (
-      getD-drop from rows (6 * i) 0,
-      getD-drop from rows (6 * i + 1) 0,
-      getD-drop from rows (6 * i + 2) 0,
-      getD-drop from rows (6 * i + 2 + 1) 0,
+      getD-drop from rows (rowSize * i) 0,
+      getD-drop from rows (rowSize * i + 1) 0,
+      getD-drop from rows (rowSize * i + 2) 0,
+      getD-drop from rows (rowSize * i + 2 + 1) 0,
       at₀,
       at₁,
       at₂,

@@ -1,4 +1,4 @@
--- What a reception comes to, by what decides it: one law for each refusal, and one for what goes on to the lookup. Assumes nothing.
+-- What a reception comes to, by what decides it: one law for each refusal, and one for what goes on to the lookup.
 use mathlib.Core.Path.{_≡_}
 use mathlib.Core.Bool.{true, false}
 use mathlib.Core.List.{List}

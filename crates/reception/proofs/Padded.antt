@@ -1,4 +1,4 @@
--- The padded payload: the payload pasted over zeros, whose bytes and bits are the payload's, 0 past its end. Assumes nothing.
+-- The padded payload: the payload pasted over zeros, whose bytes and bits are the payload's, 0 past its end.
 use mathlib.Core.Path.{_≡_, sym, _∙_}
 use mathlib.Core.List.{List, _++_}
 use mathlib.Core.Logic.{dite}
@@ -6,7 +6,8 @@ use Prim.Native.Nat.{ℕ, _+_, _-_, _/_, _≤_}
 use native.Mathlib.Nat.{lt-of-not-le, zero-add}
 use native.Mathlib.Decide.{decLe}
 use native.Mathlib.Omega.{arith}
-use lib.ListN.{length, take, drop, replicate, length-take, length-append, length-replicate, getD-replicate, replicate-append-replicate, List·getD-eq-default, List·getD-append}
+use lib.ListN.{length, take, drop, replicate, length-take, length-append, length-replicate, getD-replicate}
+use lib.ListN.{replicate-append-replicate, List·getD-eq-default, List·getD-append}
 use lib.Seq.{paste, take-at, drop-at, take-length, take-append-add, getD-take, getD-append-add}
 use Rattle.base.specs.Numbers.{byteAt}
 use Rattle.bits.specs.Payload.{bitAt}

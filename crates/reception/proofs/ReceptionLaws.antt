@@ -1,5 +1,5 @@
 -- What a reception changes and what it leaves: nothing where it is not accepted; and whatever its answer, the length, the mark and the header,
--- the plan, and what is read from the tables, so long as the area holds bytes. Assumes nothing.
+-- the plan, and what is read from the tables, so long as the area holds bytes.
 use mathlib.Core.Path.{_≡_, refl, sym, _∙_}
 use mathlib.Core.Bool.{Bool, true, false}
 use mathlib.Core.List.{List}
@@ -13,9 +13,11 @@ use Rattle.base.specs.Pick.{pick}
 use Rattle.base.specs.Numbers.{byteAt}
 use Rattle.bits.proofs.PayloadLaws.{Bytes}
 use Rattle.records.specs.declared.record.RxNumber.{RxNumber}
-use Rattle.area.specs.Layout.{rxTimer, marked, counter, order, nodeCount, txCount, rxCount, planOf, txFrame, rxFrame, claims}
+use Rattle.area.specs.Layout.{counterByte, planStart, rowBound, rxTimer}
+use Rattle.area.specs.Layout.{marked, counter, order, nodeCount, txCount, rxCount, firstRow, rowCount, planOf, txFrame, rxFrame, claims}
 use Rattle.area.specs.Claims.{accepted}
-use Rattle.area.proofs.Kept.{Kept, kept-refl, kept-then, kept-low, kept-allDone, counter-allDone, in-plan, marked-kept, order-kept, nodeCount-kept, txCount-kept, rxCount-kept, planOf-kept, txFrame-kept, rxFrame-kept, claims-kept}
+use Rattle.area.proofs.Kept.{Kept, kept-refl, kept-then, kept-allDone, counter-allDone, in-plan}
+use Rattle.area.proofs.Kept.{marked-kept, order-kept, nodeCount-kept, txCount-kept, rxCount-kept, planOf-kept, txFrame-kept, rxFrame-kept, claims-kept}
 use Rattle.area.proofs.NarrowLaws.{narrow-claims}
 use Rattle.answers.specs.declared.Refusal.{Refusal}
 use Rattle.answers.specs.declared.Refusal.the-variants.{NotOpen, NoNode, LongPayload}
@@ -23,9 +25,10 @@ use Rattle.answers.specs.declared.Received.{Received}
 use Rattle.answers.specs.declared.Received.the-variants.{Accepted, NoRow, TooShort, Refused}
 use Rattle.reception.specs.declared.lookup.Found.{Found}
 use Rattle.reception.specs.declared.lookup.Found.the-variants.{At, Nothing}
-use Rattle.reception.specs.Lookup.{firstRow, rowCount, rowsPart, lookedUp}
-use Rattle.reception.specs.Reception.{padded, acceptedArea, foundAnswer, foundArea, receivedAnswer, receivedArea}
+use Rattle.reception.specs.Lookup.{rowsPart, lookedUp}
+use Rattle.reception.specs.Reception.{padded, restarted, acceptedArea, foundAnswer, foundArea, receivedAnswer, receivedArea}
 use Rattle.reception.proofs.Search.{found-among}
+use Rattle.reception.proofs.WalkLaws.{kept-restarted}
 use Rattle.reception.proofs.Outcomes.{goes-on}
 
 -- what a test chooses for the answer and for the area
@@ -36,7 +39,7 @@ unfolding pick
 pairs P true p q = p refl
 pairs P false p q = q refl
 
-found-small : (a : List ℕ) (n id : ℕ) (x : RxNumber) → lookedUp a n id ≡ At x → x .0 < 512
+found-small : (a : List ℕ) (n id : ℕ) (x : RxNumber) → lookedUp a n id ≡ At x → x .0 < rowBound
 unfolding lookedUp
 found-small a n id x e = omega (arith, found-among (rowCount a n + 1) (rowsPart a n) (rowCount a n) (firstRow a n) id x e)
 
@@ -88,17 +91,17 @@ module _ (a : List ℕ) (n id : ℕ) (payload : List ℕ) where
 -- ---- what is kept
 
 module _ (a : List ℕ) (b : Bytes a) where
-  kept-accepted : (r : ℕ) (payload : List ℕ) → r < 512 → Kept a (acceptedArea a r payload)
+  kept-accepted : (r : ℕ) (payload : List ℕ) → r < rowBound → Kept a (acceptedArea a r payload)
   unfolding acceptedArea
   kept-accepted r payload h =
-      kept-then (kept-low (rxTimer r + 1) _ (omega arith) (omega arith) (kept-refl a))
+      kept-then (kept-restarted a r h)
       (kept-allDone (order a) (accepted r (padded payload)) (claims a r) _ (narrow-claims a r b))
 
   counter-accepted : (r : ℕ) (payload : List ℕ) → counter (acceptedArea a r payload) ≡ counter a
-  unfolding acceptedArea
+  unfolding acceptedArea restarted
   counter-accepted r payload =
       counter-allDone (order a) (accepted r (padded payload)) (claims a r) _ (narrow-claims a r b)
-      ∙ getD-set-other a (rxTimer r + 1) 2 _ 0 (λ e. omega arith)
+      ∙ getD-set-other a (rxTimer r + 1) counterByte _ 0 (λ e. omega arith)
 
   module _ (n id : ℕ) (payload : List ℕ) where
     abbrev after : List ℕ
@@ -133,6 +136,6 @@ module _ (a : List ℕ) (b : Bytes a) where
     pub claims-received : (r : ℕ) → r < 256 → claims after r ≡ claims a r
     claims-received = claims-kept kept-received
 
-    -- bytes from 8960 on are the caller's plan and what is past it
-    pub past-received : (j : ℕ) → 8960 ≤ j → byteAt after j ≡ byteAt a j
+    -- bytes from the plan on are the caller's plan and what is past it
+    pub past-received : (j : ℕ) → planStart ≤ j → byteAt after j ≡ byteAt a j
     past-received j h = kept-received .at j (in-plan j h)

@@ -1,5 +1,4 @@
 -- The cases of the search, that looks to spare change nothing, that a found number is one of the rows', and which rows a node's are.
--- Assumes nothing.
 use mathlib.Core.Path.{_≡_, sym, _∙_}
 use mathlib.Core.Logic.{⊎-elim}
 use mathlib.Core.List.{List}
@@ -12,18 +11,18 @@ use lib.ListN.{take, drop}
 use borrow.Author.Tests.{eq-eqb, ne-eqb, lt-ltb, le-ltb}
 use Rattle.base.specs.Pick.{pick}
 use Rattle.base.proofs.Picks.{by-eqb, both}
-use Rattle.area.specs.Layout.{row}
+use Rattle.area.specs.Layout.{rowSize, row, firstRow, rowCount, keyAt}
 use Rattle.records.specs.declared.record.RxNumber.{RxNumber}
 use Rattle.reception.specs.declared.lookup.Found.{Found}
 use Rattle.reception.specs.declared.lookup.Found.the-variants.{At, Nothing}
-use Rattle.reception.specs.Lookup.{keyAt, lookOnce, lookIn, firstRow, rowCount, rowsPart, lookedUp}
+use Rattle.reception.specs.Lookup.{lookOnce, lookIn, rowsPart, lookedUp}
 
 -- the two halves of n rows without the middle one
 abbrev pub lower : List ℕ → ℕ → List ℕ
-lower rows n = take (6 * (n / 2)) rows
+lower rows n = take (rowSize * (n / 2)) rows
 
 abbrev pub upper : List ℕ → ℕ → List ℕ
-upper rows n = drop (6 * (n / 2) + 6) rows
+upper rows n = drop (rowSize * (n / 2) + rowSize) rows
 
 module _ (half : List ℕ → ℕ → ℕ → Found) (rows : List ℕ) (n base key : ℕ) where
   once-none : n ≡ 0 → lookOnce half rows n base key ≡ Nothing
@@ -123,6 +122,6 @@ module _ (rows : List ℕ) (n base key : ℕ) where
 -- a part of the area that begins at the node's first row and has as many rows as the node has is the node's rows
 pub looked-up :
     (a : List ℕ) (n id first count : ℕ) → first ≡ firstRow a n → count ≡ rowCount a n
-    → lookIn (count + 1) (take (row first + 6 * count - row first) (drop (row first) a)) count first id ≡ lookedUp a n id
+    → lookIn (count + 1) (take (row first + rowSize * count - row first) (drop (row first) a)) count first id ≡ lookedUp a n id
 unfolding lookedUp rowsPart
 looked-up a n id first count e d = rw (← e, ← d, add-sub-cancel-left)

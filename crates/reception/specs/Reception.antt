@@ -18,11 +18,15 @@ use Rattle.reception.specs.Lookup.{lookedUp}
 unfoldable pub padded : List ℕ → List ℕ
 padded payload = take 64 (payload ++ replicate 64 0)
 
+-- what an acceptance does to the row's own state: "the Rx timer takes its reload value"
+unfoldable pub restarted : List ℕ → ℕ → List ℕ
+restarted a r = set a (rxTimer r + 1) (byteAt a (rxTimer r))
+
 -- "Then in order: the Rx timer takes its reload value; an enabled failure bit becomes 0; signals are copied in plan order, each to its
 -- destinations in order."
 unfoldable pub acceptedArea : List ℕ → ℕ → List ℕ → List ℕ
 acceptedArea a r payload =
-    allDone (order a) (accepted r (padded payload)) (claims a r) (set a (rxTimer r + 1) (byteAt a (rxTimer r)))
+    allDone (order a) (accepted r (padded payload)) (claims a r) (restarted a r)
 
 -- "A frame with no matching row is not processed further: answer 1, nothing changes. .. A payload shorter than the row's size: answer 2,
 -- nothing changes. Otherwise it is accepted, answer 0"

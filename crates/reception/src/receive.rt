@@ -1,4 +1,4 @@
-// The reception of a frame.
+// The reception of a frame: the call, and the acceptance. The walk that follows it is in `walk`.
 use crate::lookup::Found;
 use crate::lookup::look_up;
 use crate::walk::pad;
@@ -6,49 +6,19 @@ use crate::walk::walk;
 use answers::Received;
 use answers::Refusal;
 use area::frames::rx_frame;
+use area::frames::signals_place;
 use area::header::is_marked;
 use area::header::node_count;
+use area::layout::ORDER_BYTE;
+use area::layout::rx_timer;
+use records::record::RxFrame;
 use records::record::RxNumber;
 ghost use mathlib.Core.Path.{_≡_};
 ghost use Prim.Native.Nat.{_≤_, _<_};
 ghost use lib.ListN.{length};
+ghost use Rattle.area.specs.Layout.{rowBound, LongEnough, rxFrame};
 ghost use Rattle.reception.specs.declared.lookup.Found.the-variants.{At};
-ghost use Rattle.reception.specs.Reception.{acceptedArea, foundAnswer, foundArea, receivedAnswer, receivedArea};
-
-// An accepted payload: the Rx timer takes its reload value, and then the payload goes along the records of its Rx frame.
-fn accept(area: &mut [u8], r: usize, payload: &[u8])
-    requires { ⌜ (r < 512) × (length (now payload) ≤ 8) × (32768 ≤ length (now area)) ⌝ }
-    ensures { λ x. ⌜ now (area .exit) ≡ acceptedArea (now (area .entry)) r (now (payload .entry)) ⌝ }
-{
-    let order = area[3];
-    let frame = rx_frame(area, r);
-    let at = base::two_at(area, 3024 + 6 * r + 4);
-    let reload = area[720 + 2 * r];
-    let source = pad(payload);
-    area[720 + 2 * r + 1] = reload;
-    walk(
-        order,
-        &source,
-        frame.enable == 1,
-        base::wide(frame.position),
-        area,
-        at + 11,
-    );
-}
-
-// A payload of at most 8 bytes for a row that was found.
-fn deliver(area: &mut [u8], r: RxNumber, payload: &[u8]) -> Received
-    requires { ⌜ (r .0 < 512) × (length (now payload) ≤ 8) × (32768 ≤ length (now area)) ⌝ }
-    ensures answer { λ x. ⌜ x ≡ foundAnswer (now (area .entry)) (At r) (now (payload .entry)) ⌝ }
-    ensures bytes { λ x. ⌜ now (area .exit) ≡ foundArea (now (area .entry)) (At r) (now (payload .entry)) ⌝ }
-{
-    let frame = rx_frame(area, r.0);
-    if payload.len() < base::wide(frame.size) {
-        return Received::TooShort;
-    }
-    accept(area, r.0, payload);
-    Received::Accepted
-}
+ghost use Rattle.reception.specs.Reception.{restarted, acceptedArea, foundAnswer, foundArea, receivedAnswer, receivedArea};
 
 // A frame that a node received. One with no matching row is not processed further.
 pub fn receive(area: &mut [u8], node: usize, id: u32, payload: &[u8]) -> Received
@@ -69,4 +39,47 @@ pub fn receive(area: &mut [u8], node: usize, id: u32, payload: &[u8]) -> Receive
         return Received::NoRow;
     };
     deliver(area, r, payload)
+}
+
+// A payload of at most 8 bytes for a row that was found.
+fn deliver(area: &mut [u8], r: RxNumber, payload: &[u8]) -> Received
+    requires { ⌜ (r .0 < rowBound) × (length (now payload) ≤ 8) × LongEnough (now area) ⌝ }
+    ensures answer { λ x. ⌜ x ≡ foundAnswer (now (area .entry)) (At r) (now (payload .entry)) ⌝ }
+    ensures bytes { λ x. ⌜ now (area .exit) ≡ foundArea (now (area .entry)) (At r) (now (payload .entry)) ⌝ }
+{
+    let frame = rx_frame(area, r);
+    if payload.len() < base::wide(frame.size) {
+        return Received::TooShort;
+    }
+    accept(area, r, frame, payload);
+    Received::Accepted
+}
+
+// An accepted payload of Rx frame `r`, whose record is `frame`: the row starts again, and then the payload goes along the frame's records.
+fn accept(area: &mut [u8], r: RxNumber, frame: RxFrame, payload: &[u8])
+    requires { ⌜ (r .0 < rowBound) × (frame ≡ rxFrame (now area) (r .0)) × (length (now payload) ≤ 8) × LongEnough (now area) ⌝ }
+    ensures { λ x. ⌜ now (area .exit) ≡ acceptedArea (now (area .entry)) (r .0) (now (payload .entry)) ⌝ }
+{
+    let order = area[ORDER_BYTE];
+    let from = signals_place(area, r);
+    let source = pad(payload);
+    restart(area, r);
+    walk(
+        order,
+        &source,
+        frame.enable == 1,
+        base::wide(frame.position),
+        area,
+        from,
+    );
+}
+
+// The Rx timer takes its reload value.
+fn restart(area: &mut [u8], r: RxNumber)
+    requires { ⌜ (r .0 < rowBound) × LongEnough (now area) ⌝ }
+    ensures { λ x. ⌜ now (area .exit) ≡ restarted (now (area .entry)) (r .0) ⌝ }
+{
+    let timer = rx_timer(r);
+    let count = timer + 1;
+    area[count] = area[timer];
 }

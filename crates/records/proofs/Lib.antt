@@ -1,3 +1,3 @@
 pub mod RecordLaws
-pub mod Saying
-pub mod Cases
+pub mod Variants
+pub mod ListingRecords

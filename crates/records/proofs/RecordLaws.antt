@@ -1,51 +1,97 @@
--- Laws of the record at a place, and of the records from a place on. Assumes nothing.
+-- Laws of the record at a place, and of the records from a place on.
 use mathlib.Core.Path.{_≡_, refl, sym, ap, _∙_}
 use mathlib.Core.List.{List, [], _∷_}
 use Prim.Native.Nat.{ℕ, zero, suc, _+_, _-_, _≤_, _<_}
+use native.Mathlib.Nat.{add-zero}
 use native.Mathlib.Omega.{arith}
 use borrow.Author.Tests.{le-leb, lt-leb, leb-true, leb-false, ltb-false, eqb-false, eq-eqb, ne-eqb, lt-ltb, le-ltb}
 use lib.ListN.{length}
 use lib.Dec.{leb, ltb, eqb}
 use Rattle.base.specs.Pick.{pick}
-use Rattle.base.specs.Numbers.{byteAt}
-use Rattle.base.proofs.Picks.{picks, passes, cases, by-eqb}
+use Rattle.base.specs.Numbers.{byteAt, twoAt}
+use Rattle.base.proofs.Picks.{picks, passes, both, cases, by-eqb}
 use Rattle.records.specs.declared.record.Record.{Record}
-use Rattle.records.specs.declared.record.Record.the-variants.{BadKind, Cut, End}
-use Rattle.records.specs.Records.{lengthOf, fieldsAt, recordAt, sizeOf, recordsFrom, recordsAt, Within}
+use Rattle.records.specs.declared.record.Record.the-variants.{Head, Node, Tx, Rx, Signal, Destination, Broken}
+use Rattle.records.specs.declared.record.TxFrame.{TxFrame}
+use Rattle.records.specs.declared.record.RxFrame.{RxFrame}
+use Rattle.records.specs.declared.record.Fault.{Fault}
+use Rattle.records.specs.Views.{noTx, noRx, asTx, asRx}
+use Rattle.records.specs.declared.record.Fault.the-variants.{End, BadKind, Cut}
+use Rattle.records.specs.Kinds.{Form, formOf, lengthOf, stageOfKind, txAt, rxAt, fieldsAt, kindOf}
+use Rattle.records.specs.declared.decode.Step.{Step}
+use Rattle.records.specs.Reading.{stepAt}
+use Rattle.records.specs.Records.{recordAt, faultSize, sizeOf, recordsFrom, recordsAt}
 
--- a byte that is no kind passes every choice by kind: such a record has no length, and no fields
+-- a byte that is no kind passes every row of the table: such a record has no length, and no fields
 module _ (kind : ℕ) (n1 : kind ≡ 1 → ⊥) (n2 : kind ≡ 2 → ⊥) (n3 : kind ≡ 3 → ⊥) (n4 : kind ≡ 4 → ⊥) (n5 : kind ≡ 5 → ⊥) (n6 : kind ≡ 6 → ⊥) where
-  no-kind {ℓ} : {A : Type ℓ} (a b c d e f z : A)
-      → z ≡ pick (eqb kind 1) a (pick (eqb kind 2) b (pick (eqb kind 3) c (pick (eqb kind 4) d (pick (eqb kind 5) e (pick (eqb kind 6) f z)))))
-  unfolding pick
-  no-kind a b c d e f z = rw (ne-eqb _ _ n1, ne-eqb _ _ n2, ne-eqb _ _ n3, ne-eqb _ _ n4, ne-eqb _ _ n5, ne-eqb _ _ n6)
+  no-form : record { bytes = 0; stage = 0; fields = λ plan at. Broken BadKind } ≡ formOf kind
+  unfolding formOf pick
+  no-form = rw (ne-eqb _ _ n1, ne-eqb _ _ n2, ne-eqb _ _ n3, ne-eqb _ _ n4, ne-eqb _ _ n5, ne-eqb _ _ n6)
 
   pub no-length : 0 ≡ lengthOf kind
   unfolding lengthOf
-  no-length = no-kind _ _ _ _ _ _ _
+  no-length = ap (λ (f : Form). f .bytes) no-form
 
-  pub no-fields : (plan : List ℕ) (at : ℕ) → BadKind ≡ fieldsAt kind plan at
+  pub no-stage : 0 ≡ stageOfKind kind
+  unfolding stageOfKind
+  no-stage = ap (λ (f : Form). f .stage) no-form
+
+  pub no-fields : (plan : List ℕ) (at : ℕ) → Broken BadKind ≡ fieldsAt kind plan at
   unfolding fieldsAt
-  no-fields plan at = no-kind _ _ _ _ _ _ _
+  no-fields plan at = ap (λ (f : Form). f .fields plan at) no-form
 
 -- a whole record has the bytes that its kind says
 fields-size : (kind : ℕ) (plan : List ℕ) (at : ℕ) → 0 < lengthOf kind → sizeOf (fieldsAt kind plan at) ≡ lengthOf kind
-unfolding fieldsAt sizeOf lengthOf pick
+unfolding fieldsAt sizeOf kindOf lengthOf formOf pick
 fields-size kind plan at h =
-    let P : Record → Type 0 = λ r. sizeOf r ≡ lengthOf kind in
-    by-eqb P kind 1 _ _ (λ e. rw e) (λ n1.
-    by-eqb P kind 2 _ _ (λ e. rw e) (λ n2.
-    by-eqb P kind 3 _ _ (λ e. rw e) (λ n3.
-    by-eqb P kind 4 _ _ (λ e. rw e) (λ n4.
-    by-eqb P kind 5 _ _ (λ e. rw e) (λ n5.
-    by-eqb P kind 6 _ _ (λ e. rw e) (λ n6. absurd (omega (arith, no-length kind n1 n2 n3 n4 n5 n6))))))))
+    let P : ℕ → Type 0 = λ n. sizeOf (fieldsAt kind plan at) ≡ lengthOf kind in
+    by-eqb P kind 1 0 0 (λ e. rw e) (λ n1.
+    by-eqb P kind 2 0 0 (λ e. rw e) (λ n2.
+    by-eqb P kind 3 0 0 (λ e. rw e) (λ n3.
+    by-eqb P kind 4 0 0 (λ e. rw e) (λ n4.
+    by-eqb P kind 5 0 0 (λ e. rw e) (λ n5.
+    by-eqb P kind 6 0 0 (λ e. rw e) (λ n6. absurd (omega (arith, no-length kind n1 n2 n3 n4 n5 n6))))))))
 
--- the record at a place lies within the plan
-pub within-record : (plan : List ℕ) (at : ℕ) → Within plan at (recordAt plan at)
+-- ---- what holds of each kind, with the fields that stand there, and of a fault holds of the record at a place
+
+module _ (P : Record → Type 0) (plan : List ℕ) (at : ℕ) (broken : (fault : Fault) → P (Broken fault)) (head : P (Head (byteAt plan (at + 1))))
+    (node : P (Node (record { of = byteAt plan (at + 1) }))) (tx : P (Tx (txAt plan at))) (rx : P (Rx (rxAt plan at)))
+    (signal : P (Signal (record { position = byteAt plan (at + 1); size = byteAt plan (at + 2) })))
+    (destination : P (Destination (record { tx = record { 0 = twoAt plan (at + 1) }; position = byteAt plan (at + 3) }))) where
+  by-fields : (kind : ℕ) → P (fieldsAt kind plan at)
+  unfolding fieldsAt formOf pick
+  by-fields kind =
+      let Q : ℕ → Type 0 = λ n. P (fieldsAt kind plan at) in
+      by-eqb Q kind 1 0 0 (λ e. rw e head) (λ n1.
+      by-eqb Q kind 2 0 0 (λ e. rw e node) (λ n2.
+      by-eqb Q kind 3 0 0 (λ e. rw e tx) (λ n3.
+      by-eqb Q kind 4 0 0 (λ e. rw e rx) (λ n4.
+      by-eqb Q kind 5 0 0 (λ e. rw e signal) (λ n5.
+      by-eqb Q kind 6 0 0 (λ e. rw e destination) (λ n6. rw (← (no-fields kind n1 n2 n3 n4 n5 n6 plan at)) (broken BadKind)))))))
+
+  pub by-record : P (recordAt plan at)
+  unfolding recordAt
+  by-record = both P _ _ _ (broken End) (both P _ _ _ (broken BadKind) (both P _ _ _ (broken (Cut _)) (by-fields _)))
+
+pub tx-there : (P : TxFrame → Type 0) (plan : List ℕ) (at : ℕ) → P noTx → P (txAt plan at) → P (asTx (recordAt plan at))
+unfolding asTx
+tx-there P plan at none x = by-record (λ r. P (asTx r)) plan at (λ fault. none) none none x none none none
+
+pub rx-there : (P : RxFrame → Type 0) (plan : List ℕ) (at : ℕ) → P noRx → P (rxAt plan at) → P (asRx (recordAt plan at))
+unfolding asRx
+rx-there P plan at none x = by-record (λ r. P (asRx r)) plan at (λ fault. none) none none none x none none
+
+-- a record lies within the plan, and before the end it takes a byte at least
+record Within (plan : List ℕ) (at : ℕ) (r : Record) : Type 0 where
+  pub room : at ≤ length plan → at + sizeOf r ≤ length plan
+  pub before : at < length plan → 0 < sizeOf r
+
+within-record : (plan : List ℕ) (at : ℕ) → Within plan at (recordAt plan at)
 unfolding recordAt sizeOf
 within-record plan at =
     let kind = byteAt plan at in
-    let whole : (r : Record) → 0 < sizeOf r → at + sizeOf r ≤ length plan → Within plan at r = λ r some fits. record { room = λ h. fits; before = λ h. some } in
+    let whole : (r : Record) → 0 < sizeOf r → at + sizeOf r ≤ length plan → Within plan at r =
+    λ r some fits. record { room = λ h. fits; before = λ h. some } in
     cases (Within plan at) (leb (length plan) at) _ _ (λ t. record { room = λ h. omega arith; before = λ h. omega (arith, leb-true) }) (λ t.
     cases (Within plan at) (eqb (lengthOf kind) 0) _ _ (λ z. whole _ (omega arith) (omega (arith, leb-false))) (λ z.
     cases (Within plan at) (ltb (length plan - at) (lengthOf kind)) _ _ (λ s. whole _ (omega arith) (omega (arith, leb-false))) (λ s.
@@ -53,25 +99,35 @@ within-record plan at =
     let size = fields-size kind plan at some in
     whole _ (omega arith) (omega (arith, ltb-false, leb-false)))))
 
--- so what a reader promises follows from the first half of it
-pub record-within : (plan : List ℕ) (at : ℕ) {r : Record} → r ≡ recordAt plan at → (r ≡ recordAt plan at) × Within plan at r
-record-within plan at e = (e, rw e (within-record plan at))
-
 -- before the end a record takes at least a byte
 pub record-some : (plan : List ℕ) (at : ℕ) → at < length plan → 0 < sizeOf (recordAt plan at)
 record-some plan at h = within-record plan at .before h
 
+-- before the end a reader goes on, and never past it
+pub step-onward : (plan : List ℕ) (at : ℕ) → at < length plan → (at < stepAt plan at .next) × (stepAt plan at .next ≤ length plan)
+step-onward plan at h = let w = within-record plan at in (omega (arith, w .before h), w .room (omega arith))
+
+-- a step that was taken there: its record, its place, and that it goes on
+pub step-found : (plan : List ℕ) (at : ℕ) {x : Step} → x ≡ stepAt plan at → x .found ≡ recordAt plan at
+step-found plan at e = ap (λ (x : Step). x .found) e
+
+pub step-next : (plan : List ℕ) (at : ℕ) {x : Step} → x ≡ stepAt plan at → x .next ≡ stepAt plan at .next
+step-next plan at e = ap (λ (x : Step). x .next) e
+
+pub goes-on : (plan : List ℕ) (at : ℕ) {x : Step} → x ≡ stepAt plan at → at < length plan → (at < x .next) × (x .next ≤ length plan)
+goes-on plan at e h = rw e (step-onward plan at h)
+
 -- the four answers, each by what decides it
-pub record-end : (plan : List ℕ) (at : ℕ) → length plan ≤ at → recordAt plan at ≡ End
+pub record-end : (plan : List ℕ) (at : ℕ) → length plan ≤ at → recordAt plan at ≡ Broken End
 unfolding recordAt
 record-end plan at h = picks _ _ _ (le-leb (length plan) at h)
 
 module _ (plan : List ℕ) (at : ℕ) (h : at < length plan) where
-  pub record-bad : lengthOf (byteAt plan at) ≡ 0 → BadKind ≡ recordAt plan at
+  pub record-bad : lengthOf (byteAt plan at) ≡ 0 → Broken BadKind ≡ recordAt plan at
   unfolding recordAt pick
   record-bad z = rw (lt-leb _ _ h, eq-eqb _ _ z)
 
-  pub record-cut : 0 < lengthOf (byteAt plan at) → length plan - at < lengthOf (byteAt plan at) → Cut (byteAt plan at) ≡ recordAt plan at
+  pub record-cut : 0 < lengthOf (byteAt plan at) → length plan - at < lengthOf (byteAt plan at) → Broken (Cut (byteAt plan at)) ≡ recordAt plan at
   unfolding recordAt pick
   record-cut z l = rw (lt-leb _ _ h, ne-eqb (lengthOf (byteAt plan at)) 0 (λ e. omega arith), lt-ltb _ _ l)
 
@@ -79,8 +135,33 @@ module _ (plan : List ℕ) (at : ℕ) (h : at < length plan) where
   unfolding recordAt pick
   record-whole z l = rw (lt-leb _ _ h, ne-eqb (lengthOf (byteAt plan at)) 0 (λ e. omega arith), le-ltb _ _ l)
 
+-- and with the place behind it
+pub step-end : (plan : List ℕ) (at : ℕ) → length plan ≤ at → record { found = Broken End; next = at } ≡ stepAt plan at
+unfolding sizeOf
+step-end plan at h = rw (record-end plan at h, add-zero at)
+
+module _ (plan : List ℕ) (at : ℕ) (h : at < length plan) where
+  pub step-bad : lengthOf (byteAt plan at) ≡ 0 → record { found = Broken BadKind; next = at + 1 } ≡ stepAt plan at
+  unfolding sizeOf
+  step-bad z = rw (sym (record-bad plan at h z))
+
+  pub step-cut :
+      0 < lengthOf (byteAt plan at) → length plan - at < lengthOf (byteAt plan at)
+      → record { found = Broken (Cut (byteAt plan at)); next = at + 1 } ≡ stepAt plan at
+  unfolding sizeOf
+  step-cut z l = rw (sym (record-cut plan at h z l))
+
+  pub step-whole :
+      {r : Record} {n : ℕ} → r ≡ fieldsAt (byteAt plan at) plan at → n ≡ lengthOf (byteAt plan at) → 0 < n → n ≤ length plan - at
+      → record { found = r; next = at + n } ≡ stepAt plan at
+  step-whole {r} {n} e k z l =
+      let some : 0 < lengthOf (byteAt plan at) = omega arith in
+      let f = e ∙ record-whole plan at h some (omega arith) in
+      let size : sizeOf (recordAt plan at) ≡ n = ap sizeOf (sym f ∙ e) ∙ fields-size (byteAt plan at) plan at some ∙ sym k in
+      rw (f, size)
+
 -- a record before the end is never the end
-pub end-only : (plan : List ℕ) (at : ℕ) → recordAt plan at ≡ End → length plan ≤ at
+pub end-only : (plan : List ℕ) (at : ℕ) → recordAt plan at ≡ Broken End → length plan ≤ at
 unfolding sizeOf
 end-only plan at e = let before : at < length plan → ⊥ = λ h. omega (arith, record-some plan at h, ap sizeOf e) in omega arith
 

@@ -1,38 +1,18 @@
 // The record that stands at a place of a plan.
+use crate::record::DestinationBody;
 use crate::record::Eight;
+use crate::record::Fault;
+use crate::record::NodeBody;
 use crate::record::Record;
 use crate::record::RxFrame;
+use crate::record::SignalBody;
 use crate::record::TxFrame;
 use crate::record::TxNumber;
 ghost use mathlib.Core.Path.{_≡_};
 ghost use Prim.Native.Nat.{_+_, _≤_};
 ghost use lib.ListN.{length};
-ghost use Rattle.records.specs.Records.{lengthOf, eightAt, txAt, rxAt, fieldsAt, recordAt, Within};
-
-// How many bytes a record of a kind has, its kind byte among them; 0 where there is no such kind.
-pub fn length_of(kind: u8) -> usize
-    ensures { λ r. ⌜ (r ≡ lengthOf kind) × (r ≤ 17) ⌝ }
-{
-    if kind == 1 {
-        return 2;
-    }
-    if kind == 2 {
-        return 2;
-    }
-    if kind == 3 {
-        return 17;
-    }
-    if kind == 4 {
-        return 11;
-    }
-    if kind == 5 {
-        return 3;
-    }
-    if kind == 6 {
-        return 4;
-    }
-    0
-}
+ghost use Rattle.records.specs.Kinds.{lengthOf, stageOfKind, eightAt, txAt, rxAt, fieldsAt, faultStage, stageOf};
+ghost use Rattle.records.specs.Reading.{stepAt};
 
 fn eight_at(plan: &[u8], at: usize) -> Eight
     requires { ⌜ at + 8 ≤ length (now plan) ⌝ }
@@ -85,6 +65,85 @@ fn rx_at(plan: &[u8], at: usize) -> RxFrame
     }
 }
 
+// ---- the stages of a plan, in the order in which a plan goes through them
+
+pub const HEAD_STAGE: u8 = 1;
+
+pub const NODE_STAGE: u8 = 2;
+
+pub const TX_STAGE: u8 = 3;
+
+pub const RX_STAGE: u8 = 4;
+
+pub const SIGNAL_STAGE: u8 = 5;
+
+pub const DESTINATION_STAGE: u8 = 6;
+
+// ---- the table of kinds: how many bytes a kind has, which stage it belongs to, and what its fields are
+
+// How many bytes a record has, its kind byte among them.
+pub const HEAD_BYTES: usize = 2;
+
+pub const NODE_BYTES: usize = 2;
+
+pub const TX_BYTES: usize = 17;
+
+pub const RX_BYTES: usize = 11;
+
+pub const SIGNAL_BYTES: usize = 3;
+
+pub const DESTINATION_BYTES: usize = 4;
+
+// The same by the kind byte; 0 where there is no such kind.
+pub fn length_of(kind: u8) -> usize
+    ensures { λ r. ⌜ (r ≡ lengthOf kind) × (r ≤ 17) ⌝ }
+{
+    if kind == 1 {
+        return HEAD_BYTES;
+    }
+    if kind == 2 {
+        return NODE_BYTES;
+    }
+    if kind == 3 {
+        return TX_BYTES;
+    }
+    if kind == 4 {
+        return RX_BYTES;
+    }
+    if kind == 5 {
+        return SIGNAL_BYTES;
+    }
+    if kind == 6 {
+        return DESTINATION_BYTES;
+    }
+    0
+}
+
+// The stage of a kind; 0 where there is no such kind.
+fn stage_of_kind(kind: u8) -> u8
+    ensures { λ r. ⌜ r ≡ stageOfKind kind ⌝ }
+{
+    if kind == 1 {
+        return HEAD_STAGE;
+    }
+    if kind == 2 {
+        return NODE_STAGE;
+    }
+    if kind == 3 {
+        return TX_STAGE;
+    }
+    if kind == 4 {
+        return RX_STAGE;
+    }
+    if kind == 5 {
+        return SIGNAL_STAGE;
+    }
+    if kind == 6 {
+        return DESTINATION_STAGE;
+    }
+    0
+}
+
 // A record of a kind that is whole.
 fn fields_at(kind: u8, plan: &[u8], at: usize) -> Record
     requires { ⌜ at + lengthOf kind ≤ length (now plan) ⌝ }
@@ -96,7 +155,7 @@ fn fields_at(kind: u8, plan: &[u8], at: usize) -> Record
         };
     }
     if kind == 2 {
-        return Record::Node { of: plan[at + 1] };
+        return Record::Node(NodeBody { of: plan[at + 1] });
     }
     if kind == 3 {
         return Record::Tx(tx_at(plan, at));
@@ -105,35 +164,77 @@ fn fields_at(kind: u8, plan: &[u8], at: usize) -> Record
         return Record::Rx(rx_at(plan, at));
     }
     if kind == 5 {
-        return Record::Signal {
+        return Record::Signal(SignalBody {
             position: plan[at + 1],
             size: plan[at + 2],
-        };
+        });
     }
     if kind == 6 {
-        return Record::Destination {
+        return Record::Destination(DestinationBody {
             tx: TxNumber(base::two_at(plan, at + 1)),
             position: plan[at + 3],
-        };
+        });
     }
-    Record::BadKind
+    Record::Broken(Fault::BadKind)
 }
 
-// The record at a place, with the fact that it lies within the plan.
-pub fn record_at(plan: &[u8], at: usize) -> Record
-    ensures record { λ r. ⌜ r ≡ recordAt (now (plan .entry)) at ⌝ }
-    ensures within { λ r. ⌜ Within (now (plan .entry)) at r ⌝ }
+// The stage of a record, which one that is cut short has by its kind byte; 0 where that is no kind, and at the end.
+pub fn stage_of(r: Record) -> u8
+    ensures { λ k. ⌜ k ≡ stageOf r ⌝ }
+{
+    match r {
+        Record::Head { order: _ } => HEAD_STAGE,
+        Record::Node(_) => NODE_STAGE,
+        Record::Tx(_) => TX_STAGE,
+        Record::Rx(_) => RX_STAGE,
+        Record::Signal(_) => SIGNAL_STAGE,
+        Record::Destination(_) => DESTINATION_STAGE,
+        Record::Broken(fault) => fault_stage(fault),
+    }
+}
+
+fn fault_stage(fault: Fault) -> u8
+    ensures { λ k. ⌜ k ≡ faultStage fault ⌝ }
+{
+    if let Fault::Cut { kind } = fault {
+        return stage_of_kind(kind);
+    }
+    0
+}
+
+// A record, and the place behind it.
+pub struct Step {
+    pub found: Record,
+    pub next: usize,
+}
+
+// The record at a place. Behind one that is bad or cut a reader finds the byte after its kind byte, and at the end it stays.
+pub fn step_at(plan: &[u8], at: usize) -> Step
+    ensures { λ r. ⌜ r ≡ stepAt (now (plan .entry)) at ⌝ }
 {
     if plan.len() <= at {
-        return Record::End;
+        return Step {
+            found: Record::Broken(Fault::End),
+            next: at,
+        };
     }
     let kind = plan[at];
     let size = length_of(kind);
     if size == 0 {
-        return Record::BadKind;
+        return Step {
+            found: Record::Broken(Fault::BadKind),
+            next: at + 1,
+        };
     }
     if plan.len() - at < size {
-        return Record::Cut { kind };
+        return Step {
+            found: Record::Broken(Fault::Cut { kind }),
+            next: at + 1,
+        };
     }
-    fields_at(kind, plan, at)
+    let found = fields_at(kind, plan, at);
+    Step {
+        found,
+        next: at + size,
+    }
 }

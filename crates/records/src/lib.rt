@@ -1,4 +1,4 @@
 // The plan's records: the one place that looks at a plan's bytes.
-mod decode;
+pub mod decode;
 pub mod reader;
 pub mod record;

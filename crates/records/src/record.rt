@@ -40,17 +40,36 @@ pub struct RxFrame {
     pub long: u8,
 }
 
-pub enum Record {
-    Head { order: u8 },
-    Node { of: u8 },
-    Tx(TxFrame),
-    Rx(RxFrame),
-    Signal { position: u8, size: u8 },
-    Destination { tx: TxNumber, position: u8 },
-    // the kind byte is not 1 to 6
+pub struct NodeBody {
+    pub of: u8,
+}
+
+pub struct SignalBody {
+    pub position: u8,
+    pub size: u8,
+}
+
+pub struct DestinationBody {
+    pub tx: TxNumber,
+    pub position: u8,
+}
+
+// Why there is no whole record at a place.
+pub enum Fault {
+    // the plan ends here
+    End,
+    // the kind byte is no kind
     BadKind,
     // a record of this kind begins here and runs past the plan's end
     Cut { kind: u8 },
-    // the plan ends here
-    End,
+}
+
+pub enum Record {
+    Head { order: u8 },
+    Node(NodeBody),
+    Tx(TxFrame),
+    Rx(RxFrame),
+    Signal(SignalBody),
+    Destination(DestinationBody),
+    Broken(Fault),
 }

@@ -1,4 +1,4 @@
--- Over any openings and calls, an area answers as the model does. Assumes nothing.
+-- Over any openings and calls, an area answers as the model does.
 use mathlib.Core.Path.{_≡_, refl, ap, _∙_}
 use mathlib.Core.List.{List, [], _∷_, _++_}
 use Prim.Native.Nat.{ℕ}

@@ -1,4 +1,4 @@
--- A write of payload bits in an area is that write in the state that it shows. Assumes nothing.
+-- A write of payload bits in an area is that write in the state that it shows.
 use mathlib.Core.Path.{_≡_, refl, sym, _∙_}
 use mathlib.Core.Logic.{_≢_}
 use mathlib.Core.List.{List, []}
@@ -13,7 +13,7 @@ use Rattle.bits.specs.Digit.{setDigit}
 use Rattle.bits.specs.Payload.{digitOf, bitAt, setBit, copied, differs}
 use Rattle.bits.proofs.PayloadLaws.{bitAt-lt, length-setBit, bytes-setBit}
 use Rattle.plan.specs.Rows.{txOf}
-use Rattle.area.specs.Layout.{payload, spot}
+use Rattle.area.specs.Layout.{counterByte, payloadsStart, payload, spot}
 use Rattle.area.proofs.Frame.{Same, same-refl, same-setBit, same-fewer}
 use Rattle.model.specs.State.{State, keptOf, withKept}
 use Rattle.model.specs.Words.{Payload}
@@ -49,7 +49,7 @@ module _ {plan a : List ℕ} {s : State} (h : Held plan a s) (t : ℕ) (l : t < 
         queues = w .queues;
       })
       refl
-      (same .at 2 (λ x. omega arith) ∙ h .shows .number)
+      (same .at counterByte (λ x. omega arith) ∙ h .shows .number)
       (λ u i m k. at u i m k (ℕ-discrete u t))
       (λ u m. same .at _ (λ x. omega (arith, h .good .counts .tx)) ∙ h .shows .txTimers u m)
       (λ u m. same .at _ (λ x. omega (arith, h .good .counts .rx)) ∙ h .shows .rxTimers u m)
@@ -118,7 +118,7 @@ held-more :
 held-more {plan} {b} s t l K size o q k v m w h =
     let there : keptOf (withKept s t K) t ≡ K = getD-set-same (s .kept) t K [] (omega arith) in
     let z = held-setBit h t l o (q + k) v (omega arith) w in
-    rw (add-assoc (51072 + 64 * t) q k) (rw (set-set (s .kept) t, there) at z)
+    rw (add-assoc (8 * payloadsStart + 64 * t) q k) (rw (set-set (s .kept) t, there) at z)
 
 module _ {plan a : List ℕ} {s : State} (h : Held plan a s) (t : ℕ) (l : t < length (txOf plan)) where
   -- ---- a signal
@@ -137,5 +137,5 @@ module _ {plan a : List ℕ} {s : State} (h : Held plan a s) (t : ℕ) (l : t < 
   same-differs o source p zero q m = refl
   same-differs o source p (suc k) q m =
       let e : bitAt o a (spot t q + k) ≡ bitAt o (keptOf s t) (q + k) =
-      rw (add-assoc (51072 + 64 * t) q k) (shown-bit h t l o (q + k) (omega arith)) in
+      rw (add-assoc (8 * payloadsStart + 64 * t) q k) (shown-bit h t l o (q + k) (omega arith)) in
       rw (e, same-differs o source p k q (omega arith))

@@ -1,4 +1,4 @@
--- One call on an area and on the state that it shows, and two choices by one test. Assumes nothing.
+-- One call on an area and on the state that it shows, and two choices by one test.
 use mathlib.Core.Path.{_≡_, refl}
 use mathlib.Core.Bool.{Bool, true, false}
 use mathlib.Core.List.{List}

@@ -1,13 +1,12 @@
--- The fullness that an area answers is the model's. Assumes nothing.
+-- The fullness that an area answers is the model's.
 use mathlib.Core.Path.{_≡_, refl, ap, _∙_}
 use mathlib.Core.List.{List}
-use Prim.Native.Nat.{ℕ, zero, suc, _%_, _<_}
+use Prim.Native.Nat.{ℕ, zero, suc, _<_}
 use native.Mathlib.Omega.{arith}
 use lib.Dec.{ltb}
 use lib.ListN.{length, getD}
 use borrow.Author.Tests.{ltb-true}
 use Rattle.base.specs.Pick.{pick}
-use Rattle.base.specs.Numbers.{twoAt}
 use Rattle.base.proofs.Picks.{picks}
 use Rattle.bits.specs.Digit.{digit}
 use Rattle.bits.specs.Owners.{owners}
@@ -22,7 +21,7 @@ use Rattle.facts.specs.Good.{GoodPlan}
 use Rattle.facts.proofs.Bounds.{good-bounds}
 use Rattle.facts.proofs.FactsGood.{facts-good}
 use Rattle.facts.proofs.Whole.{zeros, zeros-length, nobody, whole-claims}
-use Rattle.area.specs.Layout.{full}
+use Rattle.area.specs.Layout.{ownedBits}
 use Rattle.answers.specs.declared.Fullness.the-variants.{Owned}
 use Rattle.taking.specs.Taken.{fullnessAnswer}
 use Rattle.model.specs.Plan.{said}
@@ -56,7 +55,7 @@ module _ (plan : List ℕ) (good : GoodPlan plan) where
 -- ---- the answer
 
 module _ {plan a : List ℕ} {s : State} (h : Held plan a s) where
-  stored : (t : ℕ) → t < length (txOf plan) → twoAt a (full t) % 65 ≡ ownedBelow (allClaims (rowsOf plan)) t 64
+  stored : (t : ℕ) → t < length (txOf plan) → ownedBits a t ≡ ownedBelow (allClaims (rowsOf plan)) t 64
   stored t l = omega (arith, h .reads .tx t l .full, count-held plan (h .good) t 64, owners-le (getD (setsOf plan) t 0) 64)
 
   answered : (t : ℕ) → fullnessAnswer a t ≡ model.fullnessOf (said plan) t

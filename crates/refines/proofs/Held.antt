@@ -1,7 +1,7 @@
--- An area that holds a plan and shows a state, and the single writes that keep this. Assumes nothing.
+-- An area that holds a plan and shows a state, and the single writes that keep this.
 use mathlib.Core.Path.{_≡_, sym, ap, _∙_}
 use mathlib.Core.List.{List, []}
-use Prim.Native.Nat.{ℕ, _+_, _≤_, _<_}
+use Prim.Native.Nat.{ℕ, _+_, _<_}
 use native.Mathlib.Omega.{arith}
 use lib.ListN.{length, getD}
 use Rattle.base.specs.Numbers.{byteAt}
@@ -9,7 +9,7 @@ use Rattle.clock.specs.Counter.{counterAfter}
 use Rattle.records.specs.Records.{records}
 use Rattle.plan.specs.Rows.{txOf, rowsOf, nodesIn}
 use Rattle.facts.specs.Good.{GoodPlan}
-use Rattle.area.specs.Layout.{txTimer, rxTimer, long, payload, counter}
+use Rattle.area.specs.Layout.{LongEnough, txTimer, rxTimer, long, payload, counter}
 use Rattle.area.proofs.Frame.{Same}
 use Rattle.area.proofs.QueueLaws.{queue-same}
 use Rattle.tables.specs.Reads.{Reads}
@@ -36,7 +36,7 @@ module _ {plan a : List ℕ} {s : State} (h : Held plan a s) where
   pub below : (n : ℕ) → n < nodesIn (records plan) → n < 16
   below n l = omega (arith, h .good .counts .nodes)
 
-  pub long-area : 32768 ≤ length a
+  pub long-area : LongEnough a
   long-area = h .reads .header .size
 
   -- a change beside the queues

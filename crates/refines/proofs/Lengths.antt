@@ -1,4 +1,4 @@
--- No call changes the length of an area, whatever stands in it. Assumes nothing.
+-- No call changes the length of an area, whatever stands in it.
 use mathlib.Core.Path.{_≡_, refl, _∙_}
 use mathlib.Core.List.{List, [], _∷_}
 use Prim.Native.Nat.{ℕ, _+_}
@@ -6,14 +6,14 @@ use lib.ListN.{length, length-set}
 use Rattle.base.proofs.Picks.{both}
 use Rattle.plan.specs.Rows.{Claim}
 use Rattle.area.specs.Layout.{rxTimer, order, claims}
-use Rattle.area.specs.Claims.{Event, accepted, allDone}
+use Rattle.area.specs.Claims.{RxEvent, accepted, allDone}
 use Rattle.area.proofs.Frame.{Same, Each, Off, same-allDone, same-dequeued}
 use Rattle.answers.specs.declared.Opened.{Opened}
 use Rattle.answers.specs.declared.Opened.the-variants.{Open, Refused}
 use Rattle.answers.specs.declared.Ticked.{Ticked}
 use Rattle.opening.specs.Opened.{openedArea}
 use Rattle.opening.proofs.OpenedLaws.{opened-length}
-use Rattle.reception.specs.Reception.{padded, acceptedArea, receivedArea}
+use Rattle.reception.specs.Reception.{padded, restarted, acceptedArea, receivedArea}
 use Rattle.reception.proofs.ReceptionLaws.{by-answer}
 use Rattle.ticking.specs.Tick.{tickedArea}
 use Rattle.ticking.proofs.TickLaws.{length-ticked, by-answer as by-tick}
@@ -29,7 +29,7 @@ offs : (cs : List Claim) → Each (Off (λ j. ⊥)) cs
 offs [] = tt
 offs (c ∷ cs) = (record { bits = λ k l x. x; wait = λ x. x; timer = λ x. x }, offs cs)
 
-sized-done : (o : ℕ) (e : Event) (cs : List Claim) (a : List ℕ) → Sized a (allDone o e cs a)
+sized-done : (o : ℕ) (e : RxEvent) (cs : List Claim) (a : List ℕ) → Sized a (allDone o e cs a)
 sized-done o e cs a = same-allDone (λ n h j l m x. x) (λ j l m x. x) o e cs a (offs cs)
 
 pub opened-sized : (x : Opened) (plan a : List ℕ) → length (openedArea x plan a) ≡ length a
@@ -38,7 +38,7 @@ opened-sized (Open nodes tx rx) plan a = opened-length plan a
 opened-sized (Refused why number) plan a = refl
 
 accepted-sized : (a : List ℕ) (r : ℕ) (payload : List ℕ) → length (acceptedArea a r payload) ≡ length a
-unfolding acceptedArea
+unfolding restarted acceptedArea
 accepted-sized a r payload = sized-done (order a) (accepted r (padded payload)) (claims a r) _ .len ∙ length-set a (rxTimer r + 1) _
 
 received-sized : (a : List ℕ) (n id : ℕ) (payload : List ℕ) → length (receivedArea a n id payload) ≡ length a

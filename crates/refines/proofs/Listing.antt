@@ -1,4 +1,4 @@
--- Document 01's listing on bytes: the model's, as the area answers as the model does. Assumes nothing.
+-- Document 01's listing on bytes: the model's, as the area answers as the model does.
 use mathlib.Core.Path.{_≡_, refl, ap, _∙_}
 use mathlib.Core.Bool.{Bool, true, false, false≢true}
 use mathlib.Core.List.{List, [], _∷_}
@@ -10,8 +10,9 @@ use borrow.Author.Tests.{ltb-true}
 use Rattle.base.specs.Numbers.{Bytes}
 use Rattle.base.specs.Pick.{pick}
 use Rattle.base.proofs.Picks.{cases}
+use Rattle.plan.specs.Shortest.{shortestArea}
 use Rattle.facts.specs.Good.{Each}
-use Rattle.facts.specs.Cases.{listing}
+use Rattle.facts.specs.PlanCases.{listing}
 use Rattle.answers.specs.declared.Opened.the-variants.{Open}
 use Rattle.model.specs.Calls.{closed, opening, Reply, opened, theModel, replyOf, replies}
 use Rattle.model.specs.Rules.{OfBytes}
@@ -47,7 +48,7 @@ headOf : List Reply → Reply → Reply
 headOf [] d = d
 headOf (x ∷ xs) d = x
 
-opens : replyOf (theModel 32768) closed (opening listing) ≡ opened (Open 1 1 1)
+opens : replyOf (theModel shortestArea) closed (opening listing) ≡ opened (Open 1 1 1)
 unfolding replies headOf
 opens = ap (λ xs. headOf xs (opened (Open 1 1 1))) listing-answered
 

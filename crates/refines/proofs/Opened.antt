@@ -1,16 +1,18 @@
--- An opened area shows the state in which the model begins. Assumes nothing.
+-- An opened area shows the state in which the model begins.
 use mathlib.Core.Path.{_≡_, sym, ap, _∙_}
 use mathlib.Core.List.{List, []}
-use Prim.Native.Nat.{ℕ, _≤_}
+use Prim.Native.Nat.{ℕ}
 use native.Mathlib.Omega.{arith}
-use lib.ListN.{length, getD, getD-replicate}
+use lib.ListN.{getD, getD-replicate}
 use Rattle.base.specs.Numbers.{Bytes}
 use Rattle.clock.specs.Counter.{counterAfter}
-use Rattle.records.specs.Records.{records, eightBytes, noTx}
+use Rattle.records.specs.Views.{noTx}
+use Rattle.records.specs.Records.{records, eightBytes}
 use Rattle.plan.specs.declared.verdict.Verdict.the-variants.{Good}
 use Rattle.plan.specs.Check.{checkPlan}
 use Rattle.plan.specs.Rows.{txOf, rowsOf, nodesIn, noRow}
 use Rattle.facts.proofs.GoodFacts.{good-facts}
+use Rattle.area.specs.Layout.{LongEnough}
 use Rattle.area.specs.Queue.{endsOf, entries, queueOf}
 use Rattle.opening.specs.Opened.{opened}
 use Rattle.tables.proofs.Opened.{opened-reads}
@@ -23,7 +25,7 @@ use Rattle.model.proofs.PlanBytes.{plan-payload}
 use Rattle.refines.specs.Shows.{Shows}
 use Rattle.refines.proofs.Held.{Held}
 
-module _ (plan a : List ℕ) (n t r : ℕ) (e : checkPlan plan ≡ Good n t r) (long : 32768 ≤ length a) where
+module _ (plan a : List ℕ) (n t r : ℕ) (e : checkPlan plan ≡ Good n t r) (long : LongEnough a) where
   empty : (m : ℕ) → endsOf (opened plan a) m .waiting ≡ 0 → queueOf (opened plan a) m ≡ []
   unfolding queueOf entries
   empty m z = rw z

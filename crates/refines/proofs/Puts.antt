@@ -1,4 +1,4 @@
--- What an accepted payload does claim by claim, in an area and in the state that it shows. Assumes nothing.
+-- What an accepted payload does claim by claim, in an area and in the state that it shows.
 use mathlib.Core.Path.{_≡_, refl, ap, _∙_}
 use mathlib.Core.Bool.{Bool}
 use mathlib.Core.List.{List, [], _∷_}
@@ -12,7 +12,7 @@ use Rattle.plan.specs.Rows.{Source, copy, failure, widthOf, Claim, txOf, rowsOf
 use Rattle.facts.specs.Good.{Each}
 use Rattle.area.specs.Layout.{spot, order, txFrame, claims}
 use Rattle.area.specs.Claims.{accepted, sentIf, doneBy, sentBy, done, allDone}
-use Rattle.reception.specs.Reception.{padded, acceptedArea}
+use Rattle.reception.specs.Reception.{padded, restarted, acceptedArea}
 use Rattle.reception.proofs.Padded.{padded-bit}
 use Rattle.tables.specs.Reads.{rowAt}
 use Rattle.model.specs.Plan.{said, txIn}
@@ -84,7 +84,7 @@ module _ {plan : List ℕ} (lawful : Lawful (said plan)) where
 
   pub held-accepted : {a : List ℕ} {s : State} → Held plan a s → (r : ℕ) → r < length (rowsOf plan) → (payload : List ℕ) → length payload ≤ 8
       → Held plan (acceptedArea a r payload) (model.accepted (said plan) s r payload)
-  unfolding acceptedArea model.accepted
+  unfolding restarted acceptedArea model.accepted
   held-accepted {a} {s} h r l payload short =
       rw (h .reads .rx r l .claims, h .reads .rx r l .reload)
       (held-puts (order a) r (h .reads .header .order) payload short (rowAt plan r .claims) (write-rx h r _ l) (lawful .frame r l) (lawful .bits r l))

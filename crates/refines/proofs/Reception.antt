@@ -1,4 +1,4 @@
--- A reception on an area is the model's reception: its answer and the state that it leaves. Assumes nothing.
+-- A reception on an area is the model's reception: its answer and the state that it leaves.
 use mathlib.Core.Path.{_≡_, refl, ap, _∙_}
 use mathlib.Core.List.{List}
 use Prim.Native.Nat.{ℕ, _<_}

@@ -1,4 +1,4 @@
--- The Rx timers of a tick and the report, in an area and in the state that it shows. Assumes nothing.
+-- The Rx timers of a tick and the report, in an area and in the state that it shows.
 use mathlib.Core.Path.{_≡_, sym, ap, _∙_}
 use mathlib.Core.List.{List, [], _∷_}
 use Prim.Native.Nat.{ℕ, zero, suc, _+_, _%_, _≤_, _<_}
@@ -16,7 +16,7 @@ use Rattle.area.specs.Claims.{expired, doneBy, sentBy, done, allDone}
 use Rattle.ticking.specs.Tick.{timed, longLowered, expiredArea, rxTick, rxTicks}
 use Rattle.tables.specs.Reads.{rowAt}
 use Rattle.refines.proofs.Prescalers.{rx-prescaler}
-use Rattle.refines.proofs.Prescalers.{due-divides}
+use Rattle.refines.proofs.Prescalers.{mask-divides}
 use Rattle.model.specs.Plan.{said, rowIn}
 use Rattle.model.specs.State.{State}
 use Rattle.model.specs.Tick.{handled, failedBy, failed, rxLowered, rxTurn, rxTurns}
@@ -72,7 +72,7 @@ module _ {plan : List ℕ} (lawful : Lawful (said plan)) where
   unfolding rxTick rxTurn handled
   held-rxTick {a} {s} k h e r l =
       let m = held-timed h r l in
-      chosen (Held plan) _ _ (due-divides (rx-prescaler plan (h .good) r l) (s .number) k _ e (h .reads .rx r l .mask))
+      chosen (Held plan) _ _ (mask-divides (rx-prescaler plan (h .good) r l) (s .number) k _ e (h .reads .rx r l .mask))
       (λ d. chosen (Held plan) _ _ (ap (λ v. eqb v 1) (h .shows .rxTimers r l)) (λ f. held-expired m r l) (λ f. m))
       (λ d. h)
 

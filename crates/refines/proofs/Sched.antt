@@ -1,4 +1,4 @@
--- Scheduling in an area is scheduling in the state that it shows. Assumes nothing.
+-- Scheduling in an area is scheduling in the state that it shows.
 use mathlib.Core.Path.{_≡_, refl, sym, ap, _∙_}
 use mathlib.Core.Logic.{_≢_, inl, inr}
 use mathlib.Core.Bool.{Bool, true, false}
@@ -12,11 +12,11 @@ use Rattle.base.specs.Numbers.{byteAt}
 use Rattle.base.proofs.Picks.{picks, passes}
 use Rattle.records.specs.Records.{records}
 use Rattle.plan.specs.Rows.{txOf, nodesIn}
-use Rattle.area.specs.Layout.{queue, txTimer, waits, payload}
+use Rattle.area.specs.Layout.{queuesStart, txTimersStart, entriesStart, payloadsStart, queue, txTimer, waits, payload}
 use Rattle.area.specs.Queue.{queueOf, scheduled}
 use Rattle.area.proofs.Frame.{same-scheduled}
 use Rattle.area.proofs.QueueLaws.{scheduled-waiting}
-use Rattle.tables.specs.Reads.{txAt, Reads}
+use Rattle.tables.specs.Reads.{plannedTx, Reads}
 use Rattle.history.proofs.Steady.{steady-aside, reads-steady}
 use Rattle.history.proofs.Aside.{aside-scheduled}
 use Rattle.sending.proofs.Scheduling.{joins, stays, reloads, moves-scheduled}
@@ -45,7 +45,7 @@ at-in (y ∷ ys) x (inr w) = let v = at-in ys x w in (suc (v .0), omega (arith, 
 
 module _ {plan a : List ℕ} {s : State} (lawful : Lawful (said plan)) (h : Held plan a s) (t : ℕ) (l : t < length (txOf plan)) where
   abbrev n : ℕ
-  n = txAt plan t .node
+  n = plannedTx plan t .node
 
   node : n < nodesIn (records plan)
   node = lawful .node t l
@@ -72,7 +72,8 @@ module _ {plan a : List ℕ} {s : State} (lawful : Lawful (said plan)) (h : Held
           absurd (h .ready .queues .queue n (below h n node) .marked (w .0) (w .1) (ap (λ u. byteAt a (waits u)) (w .2) ∙ e))
 
   -- a place past the queues' records and off the rings that scheduling leaves
-  leaves : (j : ℕ) → (80 ≤ j → 208 ≤ j) → (5328 ≤ j → 6384 ≤ j) → j ≢ waits t → j ≢ txTimer t + 1 → byteAt (scheduled a t) j ≡ byteAt a j
+  leaves : (j : ℕ) → (queuesStart ≤ j → txTimersStart ≤ j) → (entriesStart ≤ j → payloadsStart ≤ j) → j ≢ waits t → j ≢ txTimer t + 1
+      → byteAt (scheduled a t) j ≡ byteAt a j
   leaves j f g d e =
       same-scheduled {P = λ k. k ≡ j} (λ m k i x y p. omega (arith, f (omega arith))) (λ i x y p. omega (arith, g (omega arith))) a t
       (λ p. d (sym p)) (λ p. e (sym p)) .at j refl

@@ -1,6 +1,6 @@
--- The sets of owned bits that a good plan's records leave: a bit is in its set exactly where a claim holds it. Assumes nothing.
+-- The sets of owned bits that a good plan's records leave: a bit is in its set exactly where a claim holds it.
 use mathlib.Core.Path.{_≡_, refl, sym, ap, _∙_}
-use mathlib.Core.Bool.{Bool, true, false, true≢false, false≢true, _||_}
+use mathlib.Core.Bool.{Bool, true, false, true≢false, _||_}
 use mathlib.Core.List.{List, [], _∷_}
 use mathlib.Core.Option.{none, some}
 use Prim.Native.Nat.{ℕ, suc, _+_, _<_}
@@ -11,11 +11,11 @@ use Rattle.base.specs.Pick.{pick}
 use Rattle.base.proofs.Picks.{cases}
 use Rattle.bits.specs.Digit.{digit}
 use Rattle.records.specs.declared.record.Record.{Record}
-use Rattle.records.specs.declared.record.Record.the-variants.{Head, Node, Tx, Rx, Signal, Destination, BadKind, Cut, End}
-use Rattle.records.specs.Records.{kindOf}
-use Rattle.plan.specs.declared.progress.Row.{Row}
+use Rattle.records.specs.declared.record.Record.the-variants.{Head, Node, Tx, Rx, Signal, Destination, Broken}
+use Rattle.records.specs.Kinds.{stageOf}
+use Rattle.plan.specs.declared.progress.RowSoFar.{RowSoFar}
 use Rattle.plan.specs.Progress.{rowAfter}
-use Rattle.plan.specs.Tests.{isKind, isWhole}
+use Rattle.plan.proofs.TestLaws.{no-fault}
 use Rattle.plan.specs.Check.{setsAfter, setsFold}
 use Rattle.plan.specs.Rows.{widthOf, Claim, withFailure, claimsFrom, rowOf, rowsFrom, allClaims}
 use Rattle.facts.specs.Good.{Each, InPlace}
@@ -40,7 +40,7 @@ taken-bit sets c there t b =
 -- ---- all claims
 
 -- what the records leave of a bit, by the claims among them
-abbrev Leaves : ℕ → Row → List ℕ → List Record → List Claim → Type 0
+abbrev Leaves : ℕ → RowSoFar → List ℕ → List Record → List Claim → Type 0
 Leaves k row sets rs cs =
     length sets ≡ 256 → Each Small cs → (t b : ℕ) → digit (getD (setsFold k row sets rs) t 0) b ≡ pick (isHeld cs t b) 1 (digit (getD sets t 0) b)
 
@@ -60,7 +60,7 @@ thrice true false false n = refl
 thrice false y z n = either y z n
 
 -- a destination, where `idle` says that no failure bit is awaited
-module _ (k n t q x s position : ℕ) (row : Row) (sets : List ℕ) (rs : List Record) (cs : List Claim) where
+module _ (k n t q x s position : ℕ) (row : RowSoFar) (sets : List ℕ) (rs : List Record) (cs : List Claim) where
   abbrev claims : Bool → List Claim
   claims idle = withFailure n (pick idle none (some position)) t (claimOf n t q x s ∷ cs)
 
@@ -87,23 +87,22 @@ module _ (k n t q x s position : ℕ) (row : Row) (sets : List ℕ) (rs : List R
 
 -- k is the first record's number, n the Rx frame that is being read, m the next one, x the position of the signal that is being read
 pub leaves :
-    (rs : List Record) (last k n m x : ℕ) (row : Row) (sets : List ℕ) → InPlace last rs → Leaves k row sets rs (left n m row x rs)
-unfolding setsFold setsAfter rowAfter claimsFrom rowsFrom rowOf allClaims isHeld InPlace kindOf isKind isWhole pick
-leaves [] last k n m x row sets i = λ long small t b. refl
-leaves (Head order ∷ rs) last k n m x row sets i =
+    (rs : List Record) (stage k n m x : ℕ) (row : RowSoFar) (sets : List ℕ) → InPlace stage rs → Leaves k row sets rs (left n m row x rs)
+unfolding setsFold setsAfter rowAfter claimsFrom rowsFrom rowOf allClaims isHeld InPlace stageOf pick
+leaves [] stage k n m x row sets i = λ long small t b. refl
+leaves (Head order ∷ rs) stage k n m x row sets i =
     rw (no-left n m row x rs 1 (i .1) (omega arith)) at (leaves rs 1 (k + 1) n m x row sets (i .1))
-leaves (Node type ∷ rs) last k n m x row sets i =
+leaves (Node body ∷ rs) stage k n m x row sets i =
     rw (no-left n m row x rs 2 (i .1) (omega arith)) at (leaves rs 2 (k + 1) n m x row sets (i .1))
-leaves (Tx y ∷ rs) last k n m x row sets i =
+leaves (Tx y ∷ rs) stage k n m x row sets i =
     rw (no-left n m row x rs 3 (i .1) (omega arith)) at (leaves rs 3 (k + 1) n m x row sets (i .1))
-leaves (Rx y ∷ rs) last k n m x row sets i =
+leaves (Rx y ∷ rs) stage k n m x row sets i =
     rw (waits-rx k row y) at (leaves rs 4 (k + 1) m (suc m) 0 (rowAfter k row (Rx y)) sets (i .1))
-leaves (Signal p s ∷ rs) last k n m x row sets i =
-    rw (waits-signal k row p s) at (leaves rs 5 (k + 1) n m p (rowAfter k row (Signal p s)) sets (i .1))
-leaves (Destination t q ∷ rs) last k n m x row sets i =
+leaves (Signal body ∷ rs) stage k n m x row sets i =
+    rw (waits-signal k row body) at (leaves rs 5 (k + 1) n m (body .position) (rowAfter k row (Signal body)) sets (i .1))
+leaves (Destination body ∷ rs) stage k n m x row sets i =
     rw failure-append
-    (destination-leaves (k + 1) n (t .0) q x (row .size) (row .position) (rowAfter k row (Destination t q)) sets rs _ (eqb (row .awaits) 0)
-    (leaves rs 6 (k + 1) n m x (rowAfter k row (Destination t q)) _ (i .1)))
-leaves (BadKind ∷ rs) last k n m x row sets i = absurd (false≢true (i .0 .known))
-leaves (Cut kind ∷ rs) last k n m x row sets i = absurd (false≢true (i .0 .whole))
-leaves (End ∷ rs) last k n m x row sets i = absurd (false≢true (i .0 .known))
+    (destination-leaves (k + 1) n (body .tx .0) (body .position) x (row .size) (row .position) (rowAfter k row (Destination body)) sets rs _
+    (eqb (row .awaits) 0)
+    (leaves rs 6 (k + 1) n m x (rowAfter k row (Destination body)) _ (i .1)))
+leaves (Broken fault ∷ rs) stage k n m x row sets i = absurd (no-fault fault (i .0 .known) (i .0 .whole))

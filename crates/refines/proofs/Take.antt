@@ -1,4 +1,4 @@
--- A take on an area is the model's take: its answer, the payload handed back, and the state that it leaves. Assumes nothing.
+-- A take on an area is the model's take: its answer, the payload handed back, and the state that it leaves.
 use mathlib.Core.Path.{_≡_, refl, sym, ap, _∙_}
 use mathlib.Core.Bool.{Bool, true, false}
 use mathlib.Core.List.{List, [], _∷_}
@@ -13,12 +13,12 @@ use Rattle.base.specs.Pick.{pick}
 use Rattle.base.proofs.Picks.{picks, passes}
 use Rattle.records.specs.Records.{records}
 use Rattle.plan.specs.Rows.{txOf, nodesIn}
-use Rattle.area.specs.Layout.{payload, nodeCount}
+use Rattle.area.specs.Layout.{counterByte, areaLength, payloadsStart, LongEnough, payload, nodeCount, inWidth}
 use Rattle.area.specs.Queue.{queueOf}
 use Rattle.answers.specs.declared.Taken.the-variants as handed
 use Rattle.answers.specs.declared.Refusal.the-variants.{NoNode}
 use Rattle.taking.specs.Taken.{takenAnswer, takenArea, takenPayload, keptPart}
-use Rattle.tables.specs.Reads.{txAt}
+use Rattle.tables.specs.Reads.{plannedTx}
 use Rattle.history.proofs.Aside.{Aside, aside-taken}
 use Rattle.history.proofs.Steady.{steady-aside, reads-steady, kept-steady}
 use Rattle.sending.proofs.Handing.{Takes}
@@ -34,7 +34,7 @@ use Rattle.refines.proofs.Held.{Held, below}
 use Rattle.refines.proofs.Follows.{Follows}
 
 -- no place of a payload is a queue's, a timer's or a wait's
-payloads : Aside (λ j. 6384 ≤ j)
+payloads : Aside (λ j. payloadsStart ≤ j)
 payloads =
     record { ends = λ n h j l m p. omega arith; ring = λ j l m p. omega arith; timers = λ j l m e p. omega arith; low = λ j l m p. omega arith }
 
@@ -63,7 +63,7 @@ module _ {plan a : List ℕ} {s : State} (h : Held plan a s) (n : ℕ) (l : n < 
             };
         shows =
             record {
-              number = u .at 2 (λ x. omega arith, omega arith) ∙ h .shows .number;
+              number = u .at counterByte (λ x. omega arith, omega arith) ∙ h .shows .number;
               kept = λ t i m k. aside-taken payloads a n .at _ (omega arith) ∙ h .shows .kept t i m k;
               txTimers = λ t m. u .at _ (λ x. omega arith, omega (arith, h .good .counts .tx)) ∙ h .shows .txTimers t m;
               rxTimers = λ r m. u .at _ (λ x. omega arith, omega (arith, h .good .counts .rx)) ∙ h .shows .rxTimers r m;
@@ -78,26 +78,26 @@ module _ {plan a : List ℕ} {s : State} (h : Held plan a s) (n : ℕ) (l : n < 
 
   -- the payload, byte by byte
   handed-back : (t : ℕ) (rest : List ℕ) → queueOf a n ≡ t ∷ rest → t < length (txOf plan)
-      → takenPayload (takenArea a n) (takenAnswer a n) ≡ take (txAt plan t .size) (keptOf s t)
+      → takenPayload (takenArea a n) (takenAnswer a n) ≡ take (plannedTx plan t .size) (keptOf s t)
   unfolding takenPayload keptPart
   handed-back t rest e m =
       let b = takenArea a n in
       let x = held-left t rest e in
       let few : t < 256 = omega (arith, h .good .counts .tx) in
-      let small : txAt plan t .size ≤ 8 = h .ready .holding .fit .size t m in
-      let size : 32768 ≤ length b = x .reads .header .size in
+      let small : plannedTx plan t .size ≤ 8 = h .ready .holding .fit .size t m in
+      let size : LongEnough b = x .reads .header .size in
       let i : t % 256 ≡ t = omega arith in
-      let j : txAt plan t .size % 9 ≡ txAt plan t .size = omega arith in
+      let j : inWidth (plannedTx plan t .size) ≡ plannedTx plan t .size = omega arith in
       let eight = h .shape .payload t m .eight in
-      let left : length (take (txAt plan t .size) (drop (payload t) b)) ≡ txAt plan t .size =
-      length-take-le (txAt plan t .size) (drop (payload t) b) (rw length-drop (omega arith)) in
-      let right : length (take (txAt plan t .size) (keptOf s t)) ≡ txAt plan t .size =
-      length-take-le (txAt plan t .size) (keptOf s t) (omega arith) in
-      rw (law .oldest t rest e, picks _ _ _ (le-leb 32768 (length b) size), i, j)
+      let left : length (take (plannedTx plan t .size) (drop (payload t) b)) ≡ plannedTx plan t .size =
+      length-take-le (plannedTx plan t .size) (drop (payload t) b) (rw length-drop (omega arith)) in
+      let right : length (take (plannedTx plan t .size) (keptOf s t)) ≡ plannedTx plan t .size =
+      length-take-le (plannedTx plan t .size) (keptOf s t) (omega arith) in
+      rw (law .oldest t rest e, picks _ _ _ (le-leb areaLength (length b) size), i, j)
       (ext-getD 0 _ _ (left ∙ sym right)
       (λ q k.
-      getD-take (txAt plan t .size) (drop (payload t) b) q 0 (omega arith) ∙ getD-drop (payload t) b q 0 ∙ x .shows .kept t q m (omega arith)
-      ∙ sym (getD-take (txAt plan t .size) (keptOf s t) q 0 (omega arith))))
+      getD-take (plannedTx plan t .size) (drop (payload t) b) q 0 (omega arith) ∙ getD-drop (payload t) b q 0 ∙ x .shows .kept t q m (omega arith)
+      ∙ sym (getD-take (plannedTx plan t .size) (keptOf s t) q 0 (omega arith))))
 
 module _ {plan a : List ℕ} {s : State} (h : Held plan a s) where
   refused-answer : (n : ℕ) → ltb n (nodeCount a) ≡ false → takenAnswer a n ≡ handed.Refused NoNode
@@ -109,7 +109,8 @@ module _ {plan a : List ℕ} {s : State} (h : Held plan a s) where
   refused-area n k = picks _ _ _ (h .reads .header .mark) ∙ passes _ _ _ k
 
   pub take-follows : (n : ℕ) → Follows plan a s (calls.take n)
-  unfolding answerIn areaAfter calls.answerOf calls.nextOf model.takenAnswer model.takenPayload model.taken model.oldestAnswer model.oldestPayload model.withoutOldest takenPayload pick
+  unfolding answerIn areaAfter calls.answerOf calls.nextOf model.takenAnswer model.takenPayload model.taken model.oldestAnswer
+      model.oldestPayload model.withoutOldest takenPayload pick
   take-follows n = go (ltb n (nodesIn (records plan))) refl
     where
       on : ltb n (nodesIn (records plan)) ≡ true → (q : List ℕ) → queueOn s n ≡ q → Follows plan a s (calls.take n)
@@ -125,7 +126,7 @@ module _ {plan a : List ℕ} {s : State} (h : Held plan a s) where
           record {
             answer =
                 ap (λ x. calls.taken (takenAnswer a n) x) (handed-back h n l t rest f exists)
-                ∙ ap (λ x. calls.taken x (take (txAt plan t .size) (keptOf s t))) (law h n l .oldest t rest f)
+                ∙ ap (λ x. calls.taken x (take (plannedTx plan t .size) (keptOf s t))) (law h n l .oldest t rest f)
                 ∙ rw (k, e);
             held = rw (k, e) (held-left h n l t rest f);
           }

@@ -1,4 +1,4 @@
--- A tick of an area is the model's tick: its answer, every byte of its report, and the state that it leaves. Assumes nothing.
+-- A tick of an area is the model's tick: its answer, every byte of its report, and the state that it leaves.
 use mathlib.Core.Path.{_≡_, refl, sym, ap, _∙_}
 use mathlib.Core.Bool.{Bool, true, false}
 use mathlib.Core.List.{List}
@@ -15,7 +15,7 @@ use Rattle.answers.specs.declared.Ticked.the-variants.{Done, Refused}
 use Rattle.answers.specs.declared.Refusal.the-variants.{ShortReport}
 use Rattle.ticking.specs.Tick.{txTicks, rxTicks, expiredReport, rxReport, reported, ticked, tickAnswer, tickedArea, tickedReport}
 use Rattle.refines.proofs.Prescalers.{rx-prescaler}
-use Rattle.refines.proofs.Prescalers.{due-divides}
+use Rattle.refines.proofs.Prescalers.{mask-divides}
 use Rattle.model.specs.Plan.{Plan, said}
 use Rattle.model.specs.State.{State}
 use Rattle.model.specs.Tick.{handled, txTurns, rxTurns, reportOf, tickedState, tickReport}
@@ -40,7 +40,7 @@ row-report : {plan a : List ℕ} {s : State} (k : ℕ) → Held plan a s → k �
     → rxReport k a r ≡ reportOf (said plan) s r
 unfolding rxReport expiredReport reportOf handled
 row-report {plan} {a} {s} k h e r l =
-    chosen (λ x y. x ≡ y) _ _ (due-divides (rx-prescaler plan (h .good) r l) (s .number) k _ e (h .reads .rx r l .mask))
+    chosen (λ x y. x ≡ y) _ _ (mask-divides (rx-prescaler plan (h .good) r l) (s .number) k _ e (h .reads .rx r l .mask))
     (λ d. rw (h .shows .rxTimers r l, h .shows .longs r l))
     (λ d. refl)
 

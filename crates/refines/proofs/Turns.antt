@@ -1,4 +1,4 @@
--- The model's turns of a tick leave the tick's number, and of each row that is yet to come its timer and its long counter. Assumes nothing.
+-- The model's turns of a tick leave the tick's number, and of each row that is yet to come its timer and its long counter.
 use mathlib.Core.Path.{_≡_, refl, _∙_}
 use mathlib.Core.Logic.{_≢_}
 use mathlib.Core.List.{List, [], _∷_}

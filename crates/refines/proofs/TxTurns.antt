@@ -1,4 +1,4 @@
--- The Tx timers of a tick, in an area and in the state that it shows. Assumes nothing.
+-- The Tx timers of a tick, in an area and in the state that it shows.
 use mathlib.Core.Path.{_≡_, sym, ap, _∙_}
 use mathlib.Core.List.{List}
 use Prim.Native.Nat.{ℕ, zero, suc, _+_, _≤_, _<_}
@@ -12,7 +12,7 @@ use Rattle.plan.specs.Rows.{txOf}
 use Rattle.area.specs.Layout.{txTimer}
 use Rattle.ticking.specs.Tick.{timed, txTick, txTicks}
 use Rattle.refines.proofs.Prescalers.{tx-prescaler}
-use Rattle.refines.proofs.Prescalers.{due-divides}
+use Rattle.refines.proofs.Prescalers.{mask-divides}
 use Rattle.model.specs.Plan.{said, txIn}
 use Rattle.model.specs.State.{State}
 use Rattle.model.specs.Tick.{handled, txLowered, txTurn, txTurns}
@@ -37,7 +37,7 @@ module _ {plan : List ℕ} (lawful : Lawful (said plan)) where
   unfolding txTick txTurn handled
   held-txTick {a} {s} k h e t l =
       let m = held-timed h t l in
-      chosen (Held plan) _ _ (due-divides (tx-prescaler plan (h .good) t l) (s .number) k _ e (h .reads .tx t l .mask))
+      chosen (Held plan) _ _ (mask-divides (tx-prescaler plan (h .good) t l) (s .number) k _ e (h .reads .tx t l .mask))
       (λ d. chosen (Held plan) _ _ (ap (λ v. eqb v 1) (h .shows .txTimers t l)) (λ f. held-scheduled lawful m t l) (λ f. m))
       (λ d. h)
 

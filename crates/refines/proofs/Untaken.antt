@@ -1,4 +1,4 @@
--- What a take leaves: the counter, the timers and the long counters. Assumes nothing.
+-- What a take leaves: the counter, the timers and the long counters.
 use mathlib.Core.Path.{_≡_}
 use mathlib.Core.Bool.{true}
 use mathlib.Core.List.{List}
@@ -7,7 +7,7 @@ use native.Mathlib.Omega.{arith}
 use lib.Dec.{ltb}
 use borrow.Author.Tests.{ltb-true}
 use Rattle.base.proofs.Picks.{both, cases}
-use Rattle.area.specs.Layout.{nodeCount}
+use Rattle.area.specs.Layout.{queuesStart, txTimersStart, waitsStart, nodeCount}
 use Rattle.area.specs.Queue.{oldest, dequeued}
 use Rattle.area.proofs.Frame.{Same, same-refl, same-dequeued}
 use Rattle.taking.specs.Taken.{oldestArea, takenArea}
@@ -21,7 +21,7 @@ by-taken P a n gone stayed =
 
 -- no end of a queue, and no wait
 abbrev pub Untaken : ℕ → Type 0
-Untaken j = (80 ≤ j → 208 ≤ j) × (j < 1488)
+Untaken j = (queuesStart ≤ j → txTimersStart ≤ j) × (j < waitsStart)
 
 pub untaken : (a : List ℕ) (n : ℕ) → Same Untaken a (takenArea a n)
 unfolding oldest

@@ -1,4 +1,4 @@
--- One opening or call on an area and on the world that it stands for. Assumes nothing.
+-- One opening or call on an area and on the world that it stands for.
 use mathlib.Core.Path.{_≡_, refl, sym, _∙_}
 use mathlib.Core.Bool.{Bool, true, false, true≢false, false≢true}
 use mathlib.Core.List.{List}
@@ -12,7 +12,7 @@ use Rattle.base.proofs.Picks.{picks, passes, cases}
 use Rattle.plan.specs.declared.verdict.Verdict.{Verdict}
 use Rattle.plan.specs.declared.verdict.Verdict.the-variants as verdict
 use Rattle.plan.specs.Check.{checkPlan}
-use Rattle.area.specs.Layout.{marked}
+use Rattle.area.specs.Layout.{areaLength, marked}
 use Rattle.answers.specs.declared.Refusal.{Refusal}
 use Rattle.answers.specs.declared.Refusal.the-variants.{Plan as BadPlan, ShortArea}
 use Rattle.answers.specs.declared.Opened.the-variants.{Refused}
@@ -39,12 +39,12 @@ use Rattle.refines.proofs.Opened.{held-opened}
 pub marks : {a : List ℕ} → Marked a → marked a ≡ true
 unfolding marked
 marks {a} m =
-    picks _ _ _ (le-leb 32768 (length a) (m .size)) ∙ picks _ _ _ (eq-eqb (byteAt a 0) 0x47 (m .first)) ∙ eq-eqb (byteAt a 1) 0x57 (m .second)
+    picks _ _ _ (le-leb areaLength (length a) (m .size)) ∙ picks _ _ _ (eq-eqb (byteAt a 0) 0x47 (m .first)) ∙ eq-eqb (byteAt a 1) 0x57 (m .second)
 
 pub is-marked : (a : List ℕ) → marked a ≡ true → Marked a
 unfolding marked
 is-marked a =
-    cases (λ x. x ≡ true → Marked a) (leb 32768 (length a)) _ _
+    cases (λ x. x ≡ true → Marked a) (leb areaLength (length a)) _ _
     (λ l.
     cases (λ x. x ≡ true → Marked a) (eqb (byteAt a 0) 0x47) _ _
     (λ e f. record { size = leb-true _ _ l; first = eqb-true _ _ e; second = eqb-true _ _ f })
@@ -111,7 +111,7 @@ opening-agrees a plan b w k = go (checkPlan plan) refl
     go : (v : Verdict) → checkPlan plan ≡ v → P (checkPlan plan)
     go (verdict.Good n t r) e =
         rw e
-        (chosen (λ x y. Agrees (openedArea x plan a) (openNext y w plan)) (leb 32768 (length a)) _ refl
+        (chosen (λ x y. Agrees (openedArea x plan a) (openNext y w plan)) (leb areaLength (length a)) _ refl
         (λ l. unfold Agrees in held-opened plan a n t r e (leb-true _ _ l) b)
         (λ l. k ShortArea 0 (rw e (passes _ _ _ l))))
     go (verdict.Refused reason number) e = rw e (k (BadPlan reason) number (rw e))

@@ -1,4 +1,4 @@
--- The single writes of a timer, a long counter and the tick counter, in an area and in the state that it shows. Assumes nothing.
+-- The single writes of a timer, a long counter and the tick counter, in an area and in the state that it shows.
 use mathlib.Core.Path.{_≡_, refl, sym, _∙_}
 use mathlib.Core.Logic.{_≢_}
 use mathlib.Core.List.{List}
@@ -10,7 +10,7 @@ use lib.Seq.{getD-set-same, getD-set-other}
 use Rattle.base.specs.Numbers.{byteAt}
 use Rattle.clock.specs.Counter.{counterAfter}
 use Rattle.plan.specs.Rows.{txOf, rowsOf}
-use Rattle.area.specs.Layout.{txTimer, rxTimer, long}
+use Rattle.area.specs.Layout.{counterByte, txTimer, rxTimer, long}
 use Rattle.area.proofs.Frame.{same-refl, same-set}
 use Rattle.model.specs.State.{State, withTxTimer, withRxTimer, withLong, withNumber}
 use Rattle.refines.proofs.Held.{Held, held-rests, long-area}
@@ -53,7 +53,7 @@ module _ {plan a : List ℕ} {s : State} (h : Held plan a s) where
         queues = w .queues;
       })
       refl
-      (other _ v 2 (λ e. omega arith) ∙ h .shows .number)
+      (other _ v counterByte (λ e. omega arith) ∙ h .shows .number)
       (λ u i m k. other _ v _ (λ e. omega arith) ∙ h .shows .kept u i m k)
       (stored a (λ u. txTimer u + 1) (λ q u e. omega arith) (s .txTimers) _ (w .txTimers) (h .shows .txTimers) t v l (omega (arith, long-area h)))
       (λ r m. other _ v _ (λ e. omega (arith, rx-few r m)) ∙ h .shows .rxTimers r m)
@@ -75,7 +75,7 @@ module _ {plan a : List ℕ} {s : State} (h : Held plan a s) where
         queues = w .queues;
       })
       refl
-      (other _ v 2 (λ e. omega arith) ∙ h .shows .number)
+      (other _ v counterByte (λ e. omega arith) ∙ h .shows .number)
       (λ u i m k. other _ v _ (λ e. omega arith) ∙ h .shows .kept u i m k)
       (λ u m. other _ v _ (λ e. omega (arith, tx-few u m)) ∙ h .shows .txTimers u m)
       (stored a (λ u. rxTimer u + 1) (λ q u e. omega arith) (s .rxTimers) _ (w .rxTimers) (h .shows .rxTimers) r v l (omega (arith, long-area h)))
@@ -97,22 +97,22 @@ module _ {plan a : List ℕ} {s : State} (h : Held plan a s) where
         queues = w .queues;
       })
       refl
-      (other _ v 2 (λ e. omega arith) ∙ h .shows .number)
+      (other _ v counterByte (λ e. omega arith) ∙ h .shows .number)
       (λ u i m k. other _ v _ (λ e. omega arith) ∙ h .shows .kept u i m k)
       (λ u m. other _ v _ (λ e. omega (arith, tx-few u m)) ∙ h .shows .txTimers u m)
       (λ u m. other _ v _ (λ e. omega (arith, rx-few u m)) ∙ h .shows .rxTimers u m)
       (stored a long (λ q u e. omega arith) (s .longs) _ (w .longs) (h .shows .longs) r v l (omega (arith, long-area h)))
 
   -- the counter moves on
-  pub write-counter : (v k : ℕ) → v ≡ counterAfter k → Held plan (set a 2 v) (withNumber s k)
+  pub write-counter : (v k : ℕ) → v ≡ counterAfter k → Held plan (set a counterByte v) (withNumber s k)
   write-counter v k e =
       let w = h .shape in
       held-rests h (withNumber s k)
-      (same-set 2 v (λ p. p .count refl) (same-refl a))
-      (same-set 2 v (λ p. p .count refl) (same-refl a))
+      (same-set counterByte v (λ p. p .count refl) (same-refl a))
+      (same-set counterByte v (λ p. p .count refl) (same-refl a))
       (record { kept = w .kept; payload = w .payload; txTimers = w .txTimers; rxTimers = w .rxTimers; longs = w .longs; queues = w .queues })
       refl
-      (getD-set-same a 2 v 0 (omega (arith, long-area h)) ∙ e)
+      (getD-set-same a counterByte v 0 (omega (arith, long-area h)) ∙ e)
       (λ u i m k. other _ v _ (λ e. omega arith) ∙ h .shows .kept u i m k)
       (λ u m. other _ v _ (λ e. omega arith) ∙ h .shows .txTimers u m)
       (λ u m. other _ v _ (λ e. omega arith) ∙ h .shows .rxTimers u m)

@@ -1,4 +1,4 @@
--- The owned bits that the check has are those that the claims of the records before hold. Assumes nothing.
+-- The owned bits that the check has are those that the claims of the records before hold.
 use mathlib.Core.Path.{_≡_, _∙_}
 use mathlib.Core.Logic.{_⊎_, inl, inr, ⊎-elim, _↔_}
 use mathlib.Core.Bool.{Bool, true, false}
@@ -12,18 +12,20 @@ use lib.ListN.{length, length-set}
 use borrow.Author.Tests.{ltb-true}
 use Rattle.base.specs.Pick.{pick}
 use Rattle.records.specs.declared.record.Record.{Record}
-use Rattle.records.specs.Records.{kindOf}
+use Rattle.records.specs.Kinds.{stageOf}
+use Rattle.plan.specs.Limits.{mostTx}
 use Rattle.plan.specs.Progress.{counted, rowAfter, after, start}
 use Rattle.plan.specs.Tests.{inData}
 use Rattle.plan.specs.Check.{setsAfter}
 use Rattle.plan.specs.Rows.{widthOf, Claim, withFailure, claimsFrom, rowOf, rowsFrom, allClaims}
 use Rattle.plan.proofs.TestLaws.{and-both}
+use Rattle.plan.proofs.Turn.{sets-length}
 use Rattle.facts.specs.Good.{InPlace, Holds}
 use Rattle.facts.specs.Statements.{State, begun, stepped, stateAfter, AllGo}
 use Rattle.facts.proofs.Counts.{Bounded, bounded-more}
 use Rattle.facts.proofs.Owners.{Has, taken, taken-in, taken-keeps, taken-cases}
 use Rattle.facts.proofs.Destination.{setsBy, claimOf, failureOf, twice}
-use Rattle.facts.proofs.Claims.{left, no-left, failure-append, waits-rx, waits-signal, sets-length}
+use Rattle.facts.proofs.Claims.{left, no-left, failure-append, waits-rx, waits-signal}
 use Rattle.facts.proofs.Whole.{zeros-length, nobody, whole-claims}
 use Rattle.refusals.specs.Before.{Some, Owned}
 use Rattle.refusals.proofs.Passing.{Whole, head, node, tx-frame, rx-frame, signal, destination, whole, PassedIn, went, all-placed, rowIn, countsIn}
@@ -72,25 +74,25 @@ module _ (sets : List ℕ) (n d q x s position : ℕ) (there : d < length sets) 
 through : {A B C : Type 0} → A ↔ B → B ↔ C → A ↔ C
 through f g = ((λ a. g .0 (f .0 a)), (λ c. f .1 (g .1 c)))
 
-step : (s : State) (n x : ℕ) (r : Record) → Whole r → (rs : List Record) → PassedIn s r → InPlace (kindOf r) rs → Bounded (countsIn s)
-    → length (s .sets) ≡ 256 → (A : Type 0) (t b : ℕ)
+step : (s : State) (n x : ℕ) (r : Record) → Whole r → (rs : List Record) → PassedIn s r → InPlace (stageOf r) rs → Bounded (countsIn s)
+    → length (s .sets) ≡ mostTx → (A : Type 0) (t b : ℕ)
     → ((n′ x′ : ℕ) → A ↔ Kept (setsAfter (rowIn s) (s .sets) r)
     (left n′ (counted (countsIn s) r .rx) (rowAfter (s .progress .number) (rowIn s) r) x′ rs) t b)
     → A ↔ Kept (s .sets) (left n (countsIn s .rx) (rowIn s) x (r ∷ rs)) t b
-unfolding kindOf setsAfter claimsFrom rowsFrom rowOf allClaims counted rowAfter pick inData
+unfolding stageOf setsAfter claimsFrom rowsFrom rowOf allClaims counted rowAfter pick inData
 step s n x r (head order) rs a i w l A t b h = rw (no-left n (countsIn s .rx) (rowIn s) x rs _ i (omega arith)) at (h n x)
-step s n x r (node type) rs a i w l A t b h = rw (no-left n (countsIn s .rx) (rowIn s) x rs _ i (omega arith)) at (h n x)
+step s n x r (node body) rs a i w l A t b h = rw (no-left n (countsIn s .rx) (rowIn s) x rs _ i (omega arith)) at (h n x)
 step s n x r (tx-frame y) rs a i w l A t b h = rw (no-left n (countsIn s .rx) (rowIn s) x rs _ i (omega arith)) at (h n x)
 step s n x r (rx-frame y) rs a i w l A t b h = rw (waits-rx (s .progress .number) (rowIn s) y, add-one) at (h (countsIn s .rx) 0)
-step s n x r (signal p z) rs a i w l A t b h = rw (waits-signal (s .progress .number) (rowIn s) p z) at (h n p)
-step s n x r (destination d q) rs a i w l A t b h =
-    let e = ltb-true (d .0) (countsIn s .tx) (and-both (ltb (d .0) (countsIn s .tx)) _ (a .inside) .0) in
+step s n x r (signal g) rs a i w l A t b h = rw (waits-signal (s .progress .number) (rowIn s) g) at (h n (g .position))
+step s n x r (destination d) rs a i w l A t b h =
+    let e = ltb-true (d .tx .0) (countsIn s .tx) (and-both (ltb (d .tx .0) (countsIn s .tx)) _ (a .inside) .0) in
     rw failure-append
     (through (h n x)
-    (destination-joins (s .sets) n (d .0) q x (rowIn s .size) (rowIn s .position) (omega (arith, e, w .tx, l)) _ t b
+    (destination-joins (s .sets) n (d .tx .0) (d .position) x (rowIn s .size) (rowIn s .position) (omega (arith, e, w .tx, l)) _ t b
     (eqb (rowIn s .awaits) 0)))
 
-pub kept : (rs : List Record) (s : State) (n x : ℕ) → AllGo s rs → Bounded (countsIn s) → length (s .sets) ≡ 256 → (t b : ℕ)
+pub kept : (rs : List Record) (s : State) (n x : ℕ) → AllGo s rs → Bounded (countsIn s) → length (s .sets) ≡ mostTx → (t b : ℕ)
     → Has (stateAfter s rs .sets) t b ↔ Kept (s .sets) (left n (countsIn s .rx) (rowIn s) x rs) t b
 unfolding AllGo stateAfter claimsFrom rowsFrom allClaims Some after
 kept [] s n x g w l t b = ((λ h. inl h), λ h. ⊎-elim (λ k. k) (λ k. absurd k) h)

@@ -1,4 +1,4 @@
--- The tests of 7 and 8 fail exactly where those lines apply. Assumes nothing.
+-- The tests of 7 and 8 fail exactly where those lines apply.
 use mathlib.Core.Path.{_≡_}
 use mathlib.Core.Logic.{inl, inr, ⊎-elim}
 use mathlib.Core.Bool.{true, false, _&&_, true≢false}
@@ -17,7 +17,7 @@ use Rattle.facts.specs.Statements.{State}
 use Rattle.refusals.specs.Before.{_or_}
 use Rattle.refusals.specs.Owners.{PassesData, no-frame, TwoOwners}
 use Rattle.refusals.specs.Owners as O
-use Rattle.refusals.proofs.Passing.{Whole, head, node, tx-frame, rx-frame, signal, destination, rowIn, countsIn, lastIn}
+use Rattle.refusals.proofs.Passing.{Whole, head, node, tx-frame, rx-frame, signal, destination, rowIn, countsIn, stageIn}
 use Rattle.refusals.proofs.SoFar.{SoFar}
 use Rattle.refusals.proofs.Fails.{Fails, less, most, both, Taken, free}
 
@@ -28,56 +28,57 @@ module _ (before : List Record) (s : State) (h : SoFar before s) where
       ((countOf 3 before ≤ t) or (8 * getD (s .sizes) t 0 < q + rowIn s .size))
   destination-test t q = rw (← h .tx) (both (less _ _) (most _ _))
 
-  past-data : (r : Record) → Whole r → mayStand (lastIn s) r ≡ true
+  past-data : (r : Record) → Whole r → mayStand (stageIn s) r ≡ true
       → inData (countsIn s) (rowIn s) (s .sizes) r ≡ false → PassesData before r
   unfolding inData mayStand
   past-data r (head order) m e = absurd (true≢false e)
-  past-data r (node type) m e = absurd (true≢false e)
+  past-data r (node body) m e = absurd (true≢false e)
   past-data r (tx-frame x) m e = absurd (true≢false e)
   past-data r (rx-frame x) m e = absurd (true≢false e)
-  past-data r (signal p z) m e =
-      let x = h .stands .rx (leb-true 4 (lastIn s) m) in
-      O.signal p z x (omega (arith, most (p + z) (rowIn s .room) .says e, h .reading x .room))
-  past-data r (destination t q) m e = ⊎-elim (λ l. no-frame t q l) (λ l. go (decLt (t .0) (countOf 3 before)) l) (destination-test (t .0) q .says e)
+  past-data r (signal g) m e =
+      let x = h .stands .rx (leb-true 4 (stageIn s) m) in
+      O.signal g x (omega (arith, most (g .position + g .size) (rowIn s .room) .says e, h .reading x .room))
+  past-data r (destination t) m e = ⊎-elim (λ l. no-frame t l) (λ l. go (decLt (t .tx .0) (countOf 3 before)) l)
+      (destination-test (t .tx .0) (t .position) .says e)
     where
-      go : Dec (t .0 < countOf 3 before) → 8 * getD (s .sizes) (t .0) 0 < q + rowIn s .size → PassesData before (Destination t q)
+      go : Dec (t .tx .0 < countOf 3 before) → 8 * getD (s .sizes) (t .tx .0) 0 < t .position + rowIn s .size → PassesData before (Destination t)
       go (yes k) l =
-          let y = h .frames (t .0) k in
-          let x = h .stands .signal (leb-true 5 (lastIn s) m) in
-          O.destination t q y x (omega (arith, l, h .sizes (t .0) y, h .sized x .size))
-      go (no k) l = no-frame t q (omega arith)
+          let y = h .frames (t .tx .0) k in
+          let x = h .stands .signal (leb-true 5 (stageIn s) m) in
+          O.destination t y x (omega (arith, l, h .sizes (t .tx .0) y, h .sized x .size))
+      go (no k) l = no-frame t (omega arith)
 
   data-past : (r : Record) → PassesData before r → inData (countsIn s) (rowIn s) (s .sizes) r ≡ false
   unfolding inData
-  data-past r (O.signal p z x l) = most (p + z) (rowIn s .room) .back (omega (arith, l, h .reading x .room))
-  data-past r (no-frame t q l) = destination-test (t .0) q .back (inl l)
-  data-past r (O.destination t q y x l) = destination-test (t .0) q .back (inr (omega (arith, l, h .sizes (t .0) y, h .sized x .size)))
+  data-past r (O.signal g x l) = most (g .position + g .size) (rowIn s .room) .back (omega (arith, l, h .reading x .room))
+  data-past r (no-frame t l) = destination-test (t .tx .0) (t .position) .back (inl l)
+  data-past r (O.destination t y x l) = destination-test (t .tx .0) (t .position) .back (inr (omega (arith, l, h .sizes (t .tx .0) y, h .sized x .size)))
 
-  pub data-fits : (r : Record) → Whole r → mayStand (lastIn s) r ≡ true
+  pub data-fits : (r : Record) → Whole r → mayStand (stageIn s) r ≡ true
       → Fails (inData (countsIn s) (rowIn s) (s .sizes) r) (PassesData before r)
   data-fits r w m = record { says = past-data r w m; back = data-past r }
 
   -- ---- 8
 
-  clashes : (r : Record) → Whole r → mayStand (lastIn s) r ≡ true → isFree (rowIn s) (s .sets) r ≡ false → TwoOwners before r
+  clashes : (r : Record) → Whole r → mayStand (stageIn s) r ≡ true → isFree (rowIn s) (s .sets) r ≡ false → TwoOwners before r
   unfolding isFree mayStand
   clashes r (head order) m e = absurd (true≢false e)
-  clashes r (node type) m e = absurd (true≢false e)
+  clashes r (node body) m e = absurd (true≢false e)
   clashes r (tx-frame x) m e = absurd (true≢false e)
   clashes r (rx-frame x) m e = absurd (true≢false e)
-  clashes r (signal p z) m e = absurd (true≢false e)
-  clashes r (destination t q) m e =
-      let x = h .stands .signal (leb-true 5 (lastIn s) m) in
-      let k = free (getD (s .sets) (t .0) 0) q (rowIn s .size) .says e in
-      O.destination t q x (q + k .0) (omega arith) (omega (arith, k .1, h .sized x .size)) (h .owned (t .0) (q + k .0) .0 (k .2))
+  clashes r (signal g) m e = absurd (true≢false e)
+  clashes r (destination t) m e =
+      let x = h .stands .signal (leb-true 5 (stageIn s) m) in
+      let k = free (getD (s .sets) (t .tx .0) 0) (t .position) (rowIn s .size) .says e in
+      O.destination t x (t .position + k .0) (omega arith) (omega (arith, k .1, h .sized x .size)) (h .owned (t .tx .0) (t .position + k .0) .0 (k .2))
 
   two-clash : (r : Record) → TwoOwners before r → isFree (rowIn s) (s .sets) r ≡ false
   unfolding isFree
-  two-clash r (O.destination t q x b l m o) =
-      let e : q + (b - q) ≡ b = omega arith in
-      let k : Taken (getD (s .sets) (t .0) 0) q (rowIn s .size) =
-      (b - q, omega (arith, l, m, h .sized x .size), rw e (h .owned (t .0) b .1 o)) in
-      free (getD (s .sets) (t .0) 0) q (rowIn s .size) .back k
+  two-clash r (O.destination t x b l m o) =
+      let e : t .position + (b - t .position) ≡ b = omega arith in
+      let k : Taken (getD (s .sets) (t .tx .0) 0) (t .position) (rowIn s .size) =
+      (b - t .position, omega (arith, l, m, h .sized x .size), rw e (h .owned (t .tx .0) b .1 o)) in
+      free (getD (s .sets) (t .tx .0) 0) (t .position) (rowIn s .size) .back k
 
-  pub owner : (r : Record) → Whole r → mayStand (lastIn s) r ≡ true → Fails (isFree (rowIn s) (s .sets) r) (TwoOwners before r)
+  pub owner : (r : Record) → Whole r → mayStand (stageIn s) r ≡ true → Fails (isFree (rowIn s) (s .sets) r) (TwoOwners before r)
   owner r w m = record { says = clashes r w m; back = two-clash r }

@@ -1,4 +1,4 @@
--- The check refuses exactly what the table refuses, with its number and its record, and all else is good. Assumes nothing.
+-- The check refuses exactly what the table refuses, with its number and its record, and all else is good.
 use mathlib.Core.Path.{_≡_, sym, ap, _∙_}
 use mathlib.Core.Logic.{⊎-elim}
 use mathlib.Core.List.{List}

@@ -1,4 +1,4 @@
--- A test fails exactly where a condition holds: from the comparisons to tests of several. Assumes nothing.
+-- A test fails exactly where a condition holds: from the comparisons to tests of several.
 use mathlib.Core.Path.{_≡_, refl, sym, ap, _∙_}
 use mathlib.Core.Logic.{_≢_, inl, inr, ⊎-elim}
 use mathlib.Core.Bool.{Bool, true, false, not, _&&_, _||_, true≢false}

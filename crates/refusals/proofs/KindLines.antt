@@ -1,4 +1,4 @@
--- The tests of 9's first half, 2 and 1 fail exactly where those lines apply. Assumes nothing.
+-- The tests of 9's first half, 2 and 1 fail exactly where those lines apply.
 use mathlib.Core.Path.{_≡_, refl, sym, _∙_}
 use mathlib.Core.Logic.{_≢_}
 use mathlib.Core.Bool.{true, false, true≢false}
@@ -7,84 +7,103 @@ use Prim.Native.Nat.{ℕ, _<_}
 use native.Mathlib.Decide.{ℕ-discrete, decLt}
 use native.Mathlib.Omega.{arith}
 use lib.ListN.{length}
+use Rattle.base.specs.Pick.{pick}
+use Rattle.base.proofs.Picks.{by-eqb}
 use Rattle.records.specs.declared.record.Record.{Record}
-use Rattle.records.specs.declared.record.Record.the-variants.{Head, Node, Tx, Rx, Signal, Destination, BadKind, Cut, End}
-use Rattle.records.specs.Records.{kindOf}
+use Rattle.records.specs.declared.record.Record.the-variants.{Head, Node, Tx, Rx, Signal, Destination, Broken}
+use Rattle.records.specs.declared.record.SignalBody.{SignalBody}
+use Rattle.records.specs.declared.record.Fault.the-variants.{End, BadKind, Cut}
+use Rattle.records.specs.Kinds.{formOf, stageOfKind, stageOf}
+use Rattle.records.proofs.RecordLaws.{no-stage}
 use Rattle.plan.specs.Tests.{followed, isKind, isWhole}
 use Rattle.facts.specs.Statements.{State}
 use Rattle.refusals.specs.Before.{_and_, RxBefore}
-use Rattle.refusals.specs.Places.{OfKind, head, node, tx-frame, rx-frame, signal, destination, cut, NotFollowed, no-signal, no-destination, MissingFollower, UnknownKind, RunsPast}
-use Rattle.refusals.proofs.Passing.{rowIn, lastIn}
+use Rattle.refusals.specs.Places.{OfKind, head, node, tx-frame, rx-frame, signal, destination, cut, NotFollowed}
+use Rattle.refusals.specs.Places.{no-signal, no-destination, MissingFollower, UnknownKind, RunsPast}
+use Rattle.refusals.proofs.Passing.{rowIn, stageIn}
 use Rattle.refusals.proofs.Awaiting.{Awaiting, all, one, nothing}
 use Rattle.refusals.proofs.SoFar.{SoFar}
 use Rattle.refusals.proofs.Fails.{Fails, equal, either, by}
 
--- ---- the kind of a record
+-- ---- the kind of a record, and its stage
 
-pub kind-of : {k : ℕ} {r : Record} → OfKind k r → kindOf r ≡ k
-unfolding kindOf
-kind-of (head order) = refl
-kind-of (node type) = refl
-kind-of (tx-frame x) = refl
-kind-of (rx-frame x) = refl
-kind-of (signal p s) = refl
-kind-of (destination t q) = refl
-kind-of (cut kind) = refl
+-- the kinds and their stages have the same numbers
+stage-kind : (kind : ℕ) → stageOfKind kind ≢ 0 → stageOfKind kind ≡ kind
+unfolding stageOfKind formOf pick
+stage-kind kind d =
+    let P : ℕ → Type 0 = λ n. stageOfKind kind ≡ kind in
+    by-eqb P kind 1 0 0 (λ e. rw e) (λ n1.
+    by-eqb P kind 2 0 0 (λ e. rw e) (λ n2.
+    by-eqb P kind 3 0 0 (λ e. rw e) (λ n3.
+    by-eqb P kind 4 0 0 (λ e. rw e) (λ n4.
+    by-eqb P kind 5 0 0 (λ e. rw e) (λ n5.
+    by-eqb P kind 6 0 0 (λ e. rw e) (λ n6. absurd (d (sym (no-stage kind n1 n2 n3 n4 n5 n6)))))))))
 
-of-kind : (r : Record) → kindOf r ≢ 0 → OfKind (kindOf r) r
-unfolding kindOf
+stage-of : {k : ℕ} {r : Record} → OfKind k r → stageOf r ≡ stageOfKind k
+unfolding stageOf stageOfKind formOf pick
+stage-of (head order) = refl
+stage-of (node body) = refl
+stage-of (tx-frame x) = refl
+stage-of (rx-frame x) = refl
+stage-of (signal g) = refl
+stage-of (destination t) = refl
+stage-of (cut kind) = refl
+
+of-kind : (r : Record) → stageOf r ≢ 0 → OfKind (stageOf r) r
+unfolding stageOf
 of-kind (Head order) d = head order
-of-kind (Node type) d = node type
+of-kind (Node body) d = node body
 of-kind (Tx x) d = tx-frame x
 of-kind (Rx x) d = rx-frame x
-of-kind (Signal p s) d = signal p s
-of-kind (Destination t q) d = destination t q
-of-kind BadKind d = absurd (d refl)
-of-kind (Cut kind) d = cut kind
-of-kind End d = absurd (d refl)
+of-kind (Signal body) d = signal body
+of-kind (Destination body) d = destination body
+of-kind (Broken End) d = absurd (d refl)
+of-kind (Broken BadKind) d = absurd (d refl)
+of-kind (Broken (Cut kind)) d = rw (stage-kind kind d) (cut kind)
 
 -- ---- 9, first half
 
-missing : (since : List Record) (r : Record) (awaits : ℕ) → Awaiting awaits since → awaits ≢ 0 → awaits ≢ kindOf r → NotFollowed since r
-missing since r awaits (all e) d n = no-signal r (λ k. n (e ∙ sym (kind-of k)))
-missing since r awaits (one p z e) d n = no-destination p z r (λ k. n (e ∙ sym (kind-of k)))
+missing : (since : List Record) (r : Record) (awaits : ℕ) → Awaiting awaits since → awaits ≢ 0 → awaits ≢ stageOf r → NotFollowed since r
+unfolding stageOfKind formOf pick
+missing since r awaits (all e) d n = no-signal r (λ k. n (e ∙ sym (stage-of k)))
+missing since r awaits (one g e) d n = no-destination g r (λ k. n (e ∙ sym (stage-of k)))
 missing since r awaits (nothing x e) d n = absurd (d e)
 
--- a kind that is awaited, and is not r's
-other : (r : Record) (awaits k : ℕ) → awaits ≡ k → 0 < k → (OfKind k r → ⊥) → (awaits ≢ 0) and (awaits ≢ kindOf r)
+-- a stage that is awaited, and is not r's
+other : (r : Record) (awaits k : ℕ) → awaits ≡ k → 0 < k → (OfKind k r → ⊥) → (awaits ≢ 0) and (awaits ≢ stageOf r)
 other r awaits k e l n = (
   (λ z. omega arith),
-  (λ z. let same : kindOf r ≡ k = sym z ∙ e in n (rw same at (of-kind r (omega arith)))),
+  (λ z. let same : stageOf r ≡ k = sym z ∙ e in n (rw same at (of-kind r (omega arith)))),
 )
 
 awaited : (since : List Record) (r : Record) (awaits : ℕ) → NotFollowed since r → (since ≡ [] → awaits ≡ 5)
-    → ((p z : ℕ) → since ≡ Signal p z ∷ [] → awaits ≡ 6) → (awaits ≢ 0) and (awaits ≢ kindOf r)
+    → ((g : SignalBody) → since ≡ Signal g ∷ [] → awaits ≡ 6) → (awaits ≢ 0) and (awaits ≢ stageOf r)
 awaited since r awaits (no-signal x n) f g = other r awaits 5 (f refl) (omega arith) n
-awaited since r awaits (no-destination p z x n) f g = other r awaits 6 (g p z refl) (omega arith) n
+awaited since r awaits (no-destination y x n) f g = other r awaits 6 (g y refl) (omega arith) n
 
 module _ (before : List Record) (s : State) (h : SoFar before s) where
   -- where something is awaited, an enabled indicator's Rx frame is being read
   pub awaits-rx : rowIn s .awaits ≢ 0 → (x : RxBefore before) × (x .frame .enable ≡ 1)
-  awaits-rx d = go (decLt (lastIn s) 4)
+  awaits-rx d = go (decLt (stageIn s) 4)
     where
       on : (x : RxBefore before) → Dec (x .frame .enable ≡ 1) → (x : RxBefore before) × (x .frame .enable ≡ 1)
       on x (yes e) = (x, e)
       on x (no e) = absurd (d (h .reading x .idle e))
 
-      go : Dec (lastIn s < 4) → (x : RxBefore before) × (x .frame .enable ≡ 1)
+      go : Dec (stageIn s < 4) → (x : RxBefore before) × (x .frame .enable ≡ 1)
       go (yes l) = absurd (d (h .stands .awaits l))
       go (no l) = let x = h .stands .rx (omega arith) in on x (ℕ-discrete (x .frame .enable) 1)
 
-  pub follower : (r : Record) → Fails (followed (rowIn s) (kindOf r)) (MissingFollower before r)
+  pub follower : (r : Record) → Fails (followed (rowIn s) (stageOf r)) (MissingFollower before r)
   unfolding followed
-  follower r = by (either (equal (rowIn s .awaits) 0) (equal (rowIn s .awaits) (kindOf r))) to fro
+  follower r = by (either (equal (rowIn s .awaits) 0) (equal (rowIn s .awaits) (stageOf r))) to fro
     where
-      to : (rowIn s .awaits ≢ 0) and (rowIn s .awaits ≢ kindOf r) → MissingFollower before r
+      to : (rowIn s .awaits ≢ 0) and (rowIn s .awaits ≢ stageOf r) → MissingFollower before r
       to w =
           let x = awaits-rx (w .0) in
           record { rx = x .0; enabled = x .1; missing = missing (x .0 .since) r (rowIn s .awaits) (h .awaits (x .0) (x .1)) (w .0) (w .1) }
 
-      fro : MissingFollower before r → (rowIn s .awaits ≢ 0) and (rowIn s .awaits ≢ kindOf r)
+      fro : MissingFollower before r → (rowIn s .awaits ≢ 0) and (rowIn s .awaits ≢ stageOf r)
       fro m =
           let read = h .reading (m .rx) in
           awaited (m .rx .since) r (rowIn s .awaits) (m .missing) (read .first (m .enabled)) (read .second (m .enabled))
@@ -97,24 +116,24 @@ module _ (before : List Record) (s : State) (h : SoFar before s) where
 pub kind-known : {k : ℕ} {r : Record} → OfKind k r → isKind r ≡ true
 unfolding isKind
 kind-known (head order) = refl
-kind-known (node type) = refl
+kind-known (node body) = refl
 kind-known (tx-frame x) = refl
 kind-known (rx-frame x) = refl
-kind-known (signal p s) = refl
-kind-known (destination t q) = refl
+kind-known (signal g) = refl
+kind-known (destination t) = refl
 kind-known (cut kind) = refl
 
 unknown : (r : Record) → UnknownKind r → isKind r ≡ false
 unfolding isKind
 unknown (Head order) u = absurd (u 1 (head order))
-unknown (Node type) u = absurd (u 2 (node type))
+unknown (Node body) u = absurd (u 2 (node body))
 unknown (Tx x) u = absurd (u 3 (tx-frame x))
 unknown (Rx x) u = absurd (u 4 (rx-frame x))
-unknown (Signal p s) u = absurd (u 5 (signal p s))
-unknown (Destination t q) u = absurd (u 6 (destination t q))
-unknown BadKind u = refl
-unknown (Cut kind) u = absurd (u kind (cut kind))
-unknown End u = refl
+unknown (Signal body) u = absurd (u 5 (signal body))
+unknown (Destination body) u = absurd (u 6 (destination body))
+unknown (Broken End) u = refl
+unknown (Broken BadKind) u = refl
+unknown (Broken (Cut kind)) u = absurd (u kind (cut kind))
 
 pub known : (r : Record) → Fails (isKind r) (UnknownKind r)
 known r = record { says = λ e k w. true≢false (sym (kind-known w) ∙ e); back = unknown r }
@@ -123,15 +142,15 @@ known r = record { says = λ e k w. true≢false (sym (kind-known w) ∙ e); bac
 
 is-cut : (r : Record) → isWhole r ≡ false → RunsPast r
 unfolding isWhole
-is-cut (Cut kind) e = (kind, refl)
-is-cut BadKind e = absurd (true≢false e)
-is-cut End e = absurd (true≢false e)
+is-cut (Broken End) e = absurd (true≢false e)
+is-cut (Broken BadKind) e = absurd (true≢false e)
+is-cut (Broken (Cut kind)) e = (kind, refl)
 is-cut (Head order) e = absurd (true≢false e)
-is-cut (Node type) e = absurd (true≢false e)
+is-cut (Node body) e = absurd (true≢false e)
 is-cut (Tx x) e = absurd (true≢false e)
 is-cut (Rx x) e = absurd (true≢false e)
-is-cut (Signal p s) e = absurd (true≢false e)
-is-cut (Destination t q) e = absurd (true≢false e)
+is-cut (Signal body) e = absurd (true≢false e)
+is-cut (Destination body) e = absurd (true≢false e)
 
 pub cut-short : (r : Record) → Fails (isWhole r) (RunsPast r)
 unfolding isWhole

@@ -1,4 +1,4 @@
--- What the table refuses the check refuses; and every plan is refused by the table, or is good. Assumes nothing.
+-- What the table refuses the check refuses; and every plan is refused by the table, or is good.
 use mathlib.Core.Path.{_≡_, refl, sym, _∙_}
 use mathlib.Core.Logic.{_⊎_, inl, inr, ⊎-elim}
 use mathlib.Core.Bool.{Bool, true, false, not}

@@ -1,53 +1,53 @@
--- What records that pass are: whole, and in place. Assumes nothing.
+-- What records that pass are: whole, and in place.
 use mathlib.Core.Path.{_≡_, refl}
-use mathlib.Core.Bool.{true, false≢true}
+use mathlib.Core.Bool.{true}
 use mathlib.Core.List.{List, [], _∷_, _++_}
 use Prim.Native.Nat.{ℕ}
-use Rattle.records.specs.declared.record.TxNumber.{TxNumber}
+use Rattle.records.specs.declared.record.NodeBody.{NodeBody}
+use Rattle.records.specs.declared.record.SignalBody.{SignalBody}
+use Rattle.records.specs.declared.record.DestinationBody.{DestinationBody}
 use Rattle.records.specs.declared.record.TxFrame.{TxFrame}
 use Rattle.records.specs.declared.record.RxFrame.{RxFrame}
 use Rattle.records.specs.declared.record.Record.{Record}
-use Rattle.records.specs.declared.record.Record.the-variants.{Head, Node, Tx, Rx, Signal, Destination, BadKind, Cut, End}
+use Rattle.records.specs.declared.record.Record.the-variants.{Head, Node, Tx, Rx, Signal, Destination, Broken}
 use Rattle.plan.specs.declared.progress.Counts.{Counts}
-use Rattle.plan.specs.declared.progress.Row.{Row}
+use Rattle.plan.specs.declared.progress.RowSoFar.{RowSoFar}
 use Rattle.plan.specs.declared.progress.Next.the-variants.{Go}
 use Rattle.plan.specs.Progress.{after}
 use Rattle.plan.specs.Tests.{isKind, isWhole}
 use Rattle.plan.proofs.CheckLaws.{Passed, passed}
+use Rattle.plan.proofs.TestLaws.{no-fault}
 use Rattle.facts.specs.Good.{Each, InPlace}
 use Rattle.facts.specs.Statements.{State, stepped, stateAfter, judgedIn, AllGo}
 
 -- a whole record of a known kind
 pub data Whole : Record → Type 0 where
   head : (order : ℕ) → Whole (Head order)
-  node : (type : ℕ) → Whole (Node type)
+  node : (body : NodeBody) → Whole (Node body)
   tx-frame : (x : TxFrame) → Whole (Tx x)
   rx-frame : (x : RxFrame) → Whole (Rx x)
-  signal : (p s : ℕ) → Whole (Signal p s)
-  destination : (t : TxNumber) (q : ℕ) → Whole (Destination t q)
+  signal : (g : SignalBody) → Whole (Signal g)
+  destination : (t : DestinationBody) → Whole (Destination t)
 
 pub whole : (r : Record) → isKind r ≡ true → isWhole r ≡ true → Whole r
-unfolding isKind isWhole
 whole (Head order) k w = head order
-whole (Node type) k w = node type
+whole (Node body) k w = node body
 whole (Tx x) k w = tx-frame x
 whole (Rx x) k w = rx-frame x
-whole (Signal p s) k w = signal p s
-whole (Destination t q) k w = destination t q
-whole BadKind k w = absurd (false≢true k)
-whole (Cut kind) k w = absurd (false≢true w)
-whole End k w = absurd (false≢true k)
+whole (Signal body) k w = signal body
+whole (Destination body) k w = destination body
+whole (Broken fault) k w = absurd (no-fault fault k w)
 
 -- ---- where the check stands
 
-abbrev pub rowIn : State → Row
+abbrev pub rowIn : State → RowSoFar
 rowIn s = s .progress .row
 
 abbrev pub countsIn : State → Counts
 countsIn s = s .progress .counts
 
-abbrev pub lastIn : State → ℕ
-lastIn s = s .progress .last
+abbrev pub stageIn : State → ℕ
+stageIn s = s .progress .stage
 
 -- ---- records that pass
 
@@ -62,7 +62,7 @@ unfolding AllGo Each
 all-whole [] s h = tt
 all-whole (r ∷ rs) s h = let a = went s r (h .0) in (whole r (a .known) (a .whole), all-whole rs (stepped s r) (h .1))
 
-pub all-placed : (rs : List Record) (s : State) → AllGo s rs → InPlace (s .progress .last) rs
+pub all-placed : (rs : List Record) (s : State) → AllGo s rs → InPlace (s .progress .stage) rs
 unfolding AllGo InPlace after
 all-placed [] s h = tt
 all-placed (r ∷ rs) s h =

@@ -1,4 +1,4 @@
--- The test of 5 fails exactly where that line applies. Assumes nothing.
+-- The test of 5 fails exactly where that line applies.
 use mathlib.Core.Path.{_≡_, refl}
 use mathlib.Core.Logic.{_≢_, inl, inr}
 use mathlib.Core.Bool.{false, _&&_, _||_}
@@ -79,20 +79,20 @@ module _ (before : List Record) where
   outside : (r : Record) → Whole r → inRange (countOf 2 before) r ≡ false → OutOfRange before r
   unfolding inRange
   outside r (head order) e = F.head order (most order 1 .says e)
-  outside r (node type) e = F.node type (equal type 0 .says e)
+  outside r (node body) e = F.node body (equal (body .of) 0 .says e)
   outside r (tx-frame x) e = F.tx-frame x (tx-range _ x .says e)
   outside r (rx-frame x) e = F.rx-frame x (rx-range _ x .says e)
-  outside r (signal p z) e = F.signal p z (signal-range p z .says e)
-  outside r (destination t q) e = F.destination t q (most q 63 .says e)
+  outside r (signal g) e = F.signal g (signal-range (g .position) (g .size) .says e)
+  outside r (destination t) e = F.destination t (most (t .position) 63 .says e)
 
   not-inside : (r : Record) → OutOfRange before r → inRange (countOf 2 before) r ≡ false
   unfolding inRange
   not-inside r (F.head order l) = most order 1 .back l
-  not-inside r (F.node type l) = equal type 0 .back l
+  not-inside r (F.node body l) = equal (body .of) 0 .back l
   not-inside r (F.tx-frame x l) = tx-range _ x .back l
   not-inside r (F.rx-frame x l) = rx-range _ x .back l
-  not-inside r (F.signal p z l) = signal-range p z .back l
-  not-inside r (F.destination t q l) = most q 63 .back l
+  not-inside r (F.signal g l) = signal-range (g .position) (g .size) .back l
+  not-inside r (F.destination t l) = most (t .position) 63 .back l
 
   pub range : (s : State) → SoFar before s → (r : Record) → Whole r → Fails (inRange (countsIn s .nodes) r) (OutOfRange before r)
   range s h r w = rw (h .nodes) (record { says = outside r w; back = not-inside r })

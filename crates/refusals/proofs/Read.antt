@@ -1,4 +1,4 @@
--- What the check has read is what the records say: their counts, their number and the kind of the last one. Assumes nothing.
+-- What the check has read is what the records say: their counts, their number and the stage of the last one.
 use mathlib.Core.Path.{_≡_, refl, sym, _∙_}
 use mathlib.Core.List.{List, [], _∷_, _++_}
 use Prim.Native.Nat.{_+_}
@@ -7,12 +7,12 @@ use native.Mathlib.Nat.{add-zero}
 use lib.ListN.{length}
 use Rattle.base.specs.Pick.{pick}
 use Rattle.records.specs.declared.record.Record.{Record}
-use Rattle.records.specs.Records.{kindOf}
+use Rattle.records.specs.Kinds.{stageOf}
 use Rattle.plan.specs.declared.progress.Counts.{Counts}
 use Rattle.plan.specs.Progress.{counted, after}
 use Rattle.facts.specs.Good.{Each, countOf}
 use Rattle.facts.specs.Statements.{State, stepped, stateAfter}
-use Rattle.refusals.proofs.Passing.{Whole, head, node, tx-frame, rx-frame, signal, destination, countsIn, lastIn}
+use Rattle.refusals.proofs.Passing.{Whole, head, node, tx-frame, rx-frame, signal, destination, countsIn, stageIn}
 
 pub record Adds (c d : Counts) (rs : List Record) : Type 0 where
   pub nodes : d .nodes ≡ c .nodes + countOf 2 rs
@@ -22,13 +22,13 @@ pub record Adds (c d : Counts) (rs : List Record) : Type 0 where
   pub destinations : d .destinations ≡ c .destinations + countOf 6 rs
 
 one : (c : Counts) (r : Record) → Whole r → (rs : List Record) (d : Counts) → Adds (counted c r) d rs → Adds c d (r ∷ rs)
-unfolding counted kindOf countOf pick
+unfolding counted stageOf countOf pick
 one c r (head order) rs d a = omega arith
-one c r (node type) rs d a = omega arith
+one c r (node body) rs d a = omega arith
 one c r (tx-frame x) rs d a = omega arith
 one c r (rx-frame x) rs d a = omega arith
-one c r (signal p s) rs d a = omega arith
-one c r (destination t q) rs d a = omega arith
+one c r (signal g) rs d a = omega arith
+one c r (destination t) rs d a = omega arith
 
 pub adds : (rs : List Record) (s : State) → Each Whole rs → Adds (countsIn s) (countsIn (stateAfter s rs)) rs
 unfolding stateAfter Each countOf after
@@ -42,7 +42,7 @@ number (r ∷ rs) s = number rs (stepped s r) ∙ omega arith
 
 -- ---- the last record
 
-pub last-kind : (front : List Record) (y : Record) (s : State) → lastIn (stateAfter s (front ++ y ∷ [])) ≡ kindOf y
+pub last-stage : (front : List Record) (y : Record) (s : State) → stageIn (stateAfter s (front ++ y ∷ [])) ≡ stageOf y
 unfolding stateAfter after
-last-kind [] y s = refl
-last-kind (x ∷ front) y s = last-kind front y (stepped s x)
+last-stage [] y s = refl
+last-stage (x ∷ front) y s = last-stage front y (stepped s x)

@@ -1,4 +1,4 @@
--- The Tx frames before, by number, and that the sizes that the check has are theirs. Assumes nothing.
+-- The Tx frames before, by number, and that the sizes that the check has are theirs.
 use mathlib.Core.Path.{_≡_, refl, ap, _∙_}
 use mathlib.Core.List.{List, [], _∷_, _++_}
 use Prim.Native.Nat.{ℕ, zero, suc, _+_, _<_}
@@ -11,7 +11,8 @@ use Rattle.base.specs.Pick.{pick}
 use Rattle.records.specs.declared.record.TxFrame.{TxFrame}
 use Rattle.records.specs.declared.record.Record.{Record}
 use Rattle.records.specs.declared.record.Record.the-variants.{Tx}
-use Rattle.records.specs.Records.{kindOf}
+use Rattle.records.specs.Kinds.{stageOf}
+use Rattle.plan.specs.Limits.{mostTx}
 use Rattle.plan.specs.Progress.{counted, after, start}
 use Rattle.plan.specs.Tests.{hasRoom}
 use Rattle.plan.specs.Check.{sizesAfter}
@@ -26,7 +27,7 @@ use Rattle.refusals.proofs.Read.{adds}
 
 -- ---- Tx frame t
 
-tx-more : (t k : ℕ) (r : Record) (rs : List Record) → TxBefore t rs → pick (eqb (kindOf r) 3) 1 0 + t ≡ k → TxBefore k (r ∷ rs)
+tx-more : (t k : ℕ) (r : Record) (rs : List Record) → TxBefore t rs → pick (eqb (stageOf r) 3) 1 0 + t ≡ k → TxBefore k (r ∷ rs)
 unfolding countOf
 tx-more t k r rs h e =
     record {
@@ -34,20 +35,20 @@ tx-more t k r rs h e =
       frame = h .frame;
       since = h .since;
       split = ap (λ (xs : List Record). r ∷ xs) (h .split);
-      number = ap (λ (n : ℕ). pick (eqb (kindOf r) 3) 1 0 + n) (h .number) ∙ e;
+      number = ap (λ (n : ℕ). pick (eqb (stageOf r) 3) 1 0 + n) (h .number) ∙ e;
     }
 
 tx-by :
     (r : Record) → Whole r → (rs : List Record) (t : ℕ) → t < countOf 3 (r ∷ rs) → ((k : ℕ) → k < countOf 3 rs → TxBefore k rs)
     → TxBefore t (r ∷ rs)
-unfolding countOf kindOf pick
+unfolding countOf stageOf pick
 tx-by r (head order) rs t l h = tx-more t t r rs (h t (omega arith)) (omega arith)
-tx-by r (node type) rs t l h = tx-more t t r rs (h t (omega arith)) (omega arith)
+tx-by r (node body) rs t l h = tx-more t t r rs (h t (omega arith)) (omega arith)
 tx-by r (tx-frame x) rs zero l h = record { front = []; frame = x; since = rs; split = refl; number = refl }
 tx-by r (tx-frame x) rs (suc t) l h = tx-more t (suc t) r rs (h t (omega arith)) (omega arith)
 tx-by r (rx-frame x) rs t l h = tx-more t t r rs (h t (omega arith)) (omega arith)
-tx-by r (signal p s) rs t l h = tx-more t t r rs (h t (omega arith)) (omega arith)
-tx-by r (destination d q) rs t l h = tx-more t t r rs (h t (omega arith)) (omega arith)
+tx-by r (signal g) rs t l h = tx-more t t r rs (h t (omega arith)) (omega arith)
+tx-by r (destination d) rs t l h = tx-more t t r rs (h t (omega arith)) (omega arith)
 
 pub tx-before : (rs : List Record) (t : ℕ) → Each Whole rs → t < countOf 3 rs → TxBefore t rs
 unfolding Each countOf
@@ -59,11 +60,11 @@ tx-before (r ∷ rs) t w l = tx-by r (w .0) rs t l (λ k m. tx-before rs k (w .1
 long-by : (t : ℕ) (sizes : List ℕ) (r : Record) → Whole r → length (sizesAfter t sizes r) ≡ length sizes
 unfolding sizesAfter
 long-by t sizes r (head order) = refl
-long-by t sizes r (node type) = refl
+long-by t sizes r (node body) = refl
 long-by t sizes r (tx-frame x) = length-set sizes t (x .size)
 long-by t sizes r (rx-frame x) = refl
-long-by t sizes r (signal p s) = refl
-long-by t sizes r (destination d q) = refl
+long-by t sizes r (signal g) = refl
+long-by t sizes r (destination d) = refl
 
 long : (rs : List Record) (s : State) → Each Whole rs → length (stateAfter s rs .sizes) ≡ length (s .sizes)
 unfolding stateAfter Each
@@ -92,7 +93,7 @@ sizes-are before g t y =
     let s = stateAfter begun (y .front) in
     let w = all-whole (y .front) begun (all-front (y .front) (Tx (y .frame) ∷ y .since) begun g′) in
     let here = went s (Tx (y .frame)) (all-since (y .front) (Tx (y .frame) ∷ y .since) begun g′ .0) in
-    let room = ltb-true (countsIn s .tx) 256 (here .room) in
+    let room = ltb-true (countsIn s .tx) mostTx (here .room) in
     let e : countsIn s .tx ≡ t = omega (arith, adds (y .front) begun w .tx, y .number) in
     rw (y .split, past (y .front) (Tx (y .frame) ∷ y .since) begun, ← e)
     (stored s (y .frame) (y .since) (omega (arith, room, long (y .front) begun w, zeros-length)))

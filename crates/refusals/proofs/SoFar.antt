@@ -1,4 +1,4 @@
--- What the check knows after records that pass, all in words of those records. Assumes nothing.
+-- What the check knows after records that pass, all in words of those records.
 use mathlib.Core.Path.{_≡_, refl, _∙_}
 use mathlib.Core.Logic.{_↔_}
 use mathlib.Core.List.{List, [], _∷_, _++_}
@@ -10,7 +10,8 @@ use borrow.Author.Tests.{eq-eqb}
 use Rattle.base.specs.Pick.{pick}
 use Rattle.records.specs.declared.record.Record.{Record}
 use Rattle.records.specs.declared.record.Record.the-variants.{Rx, Signal}
-use Rattle.records.specs.Records.{kindOf}
+use Rattle.records.specs.Kinds.{stageOf}
+use Rattle.plan.specs.Limits.{idRange}
 use Rattle.plan.specs.Progress.{rowAfter, after, start}
 use Rattle.plan.specs.Tests.{inRange}
 use Rattle.plan.proofs.TestLaws.{rx-ranges}
@@ -18,8 +19,8 @@ use Rattle.facts.specs.Good.{Each, countOf}
 use Rattle.facts.specs.Statements.{State, begun, stepped, stateAfter, AllGo}
 use Rattle.facts.proofs.Owners.{Has}
 use Rattle.refusals.specs.Before.{RxBefore, SignalBefore, TxBefore, Owned}
-use Rattle.refusals.proofs.Passing.{Whole, went, past, all-whole, all-since, rowIn, countsIn, lastIn}
-use Rattle.refusals.proofs.Read.{adds, number, last-kind}
+use Rattle.refusals.proofs.Passing.{Whole, went, past, all-whole, all-since, rowIn, countsIn, stageIn}
+use Rattle.refusals.proofs.Read.{adds, number, last-stage}
 use Rattle.refusals.proofs.Reading.{Reading, reading, Sized, sized}
 use Rattle.refusals.proofs.Awaiting.{Awaiting, awaiting}
 use Rattle.refusals.proofs.Standing.{Stand, stand}
@@ -33,23 +34,23 @@ pub record SoFar (before : List Record) (s : State) : Type 0 where
   pub rx : countsIn s .rx ≡ countOf 4 before
   pub signals : countsIn s .signals ≡ countOf 5 before
   pub destinations : countsIn s .destinations ≡ countOf 6 before
-  pub first : before ≡ [] → lastIn s ≡ 0
-  pub next : (front : List Record) (y : Record) → before ≡ front ++ y ∷ [] → Whole y × (lastIn s ≡ kindOf y)
+  pub first : before ≡ [] → stageIn s ≡ 0
+  pub next : (front : List Record) (y : Record) → before ≡ front ++ y ∷ [] → Whole y × (stageIn s ≡ stageOf y)
   pub stands : Stand before (s .progress)
   pub reading : (x : RxBefore before) → Reading (length (x .front)) (x .frame) (x .since) (rowIn s)
   pub awaits : (x : RxBefore before) → x .frame .enable ≡ 1 → Awaiting (rowIn s .awaits) (x .since)
-  pub small : (x : RxBefore before) → x .frame .id < 2048
-  pub sized : (x : SignalBefore before) → Sized (x .size) (x .destinations) (rowIn s)
+  pub small : (x : RxBefore before) → x .frame .id < idRange
+  pub sized : (x : SignalBefore before) → Sized (x .body .size) (x .destinations) (rowIn s)
   pub frames : (t : ℕ) → t < countOf 3 before → TxBefore t before
   pub sizes : (t : ℕ) (y : TxBefore t before) → getD (s .sizes) t 0 ≡ y .frame .size
   pub owned : (t b : ℕ) → Has (s .sets) t b ↔ Owned before t b
 
 module _ (before : List Record) (g : AllGo begun before) where
-  last-is : (front : List Record) (y : Record) → before ≡ front ++ y ∷ [] → Whole y × (lastIn (stateAfter begun before) ≡ kindOf y)
+  last-is : (front : List Record) (y : Record) → before ≡ front ++ y ∷ [] → Whole y × (stageIn (stateAfter begun before) ≡ stageOf y)
   unfolding Each
   last-is front y e =
       let since = all-since front (y ∷ []) begun (rw e at g) in
-      (all-whole (y ∷ []) (stateAfter begun front) since .0, rw e (last-kind front y begun))
+      (all-whole (y ∷ []) (stateAfter begun front) since .0, rw e (last-stage front y begun))
 
   module _ (x : RxBefore before) where
     here : AllGo (stateAfter begun (x .front)) (Rx (x .frame) ∷ x .since)
@@ -68,14 +69,14 @@ module _ (before : List Record) (g : AllGo begun before) where
         rw (x .split, past (x .front) (Rx (x .frame) ∷ x .since) begun)
         (awaiting (stepped (stateAfter begun (x .front)) (Rx (x .frame))) (x .since) (here .1) (x .last) (rw (eq-eqb (x .frame .enable) 1 on)))
 
-    below : x .frame .id < 2048
+    below : x .frame .id < idRange
     unfolding AllGo inRange
     below = rx-ranges _ (x .frame) (went (stateAfter begun (x .front)) (Rx (x .frame)) (here .0) .range) .id
 
-  sizes-so : (x : SignalBefore before) → Sized (x .size) (x .destinations) (rowIn (stateAfter begun before))
+  sizes-so : (x : SignalBefore before) → Sized (x .body .size) (x .destinations) (rowIn (stateAfter begun before))
   sizes-so x =
-      rw (x .split, past (x .front) (Signal (x .position) (x .size) ∷ x .destinations) begun)
-      (sized (stateAfter begun (x .front)) (x .position) (x .size) (x .destinations) (x .only))
+      rw (x .split, past (x .front) (Signal (x .body) ∷ x .destinations) begun)
+      (sized (stateAfter begun (x .front)) (x .body) (x .destinations) (x .only))
 
   pub so-far : SoFar before (stateAfter begun before)
   unfolding start stateAfter

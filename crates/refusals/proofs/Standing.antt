@@ -1,5 +1,4 @@
 -- What stands before: where the last record is an Rx frame or belongs to one, that frame; where it is a signal or a destination, that signal.
--- Assumes nothing.
 use mathlib.Core.Path.{_≡_, refl, ap, _∙_}
 use mathlib.Core.Bool.{true}
 use mathlib.Core.List.{List, [], _∷_, _++_, append-nil, append-assoc}
@@ -9,8 +8,8 @@ use lib.Dec.{leb, ltb}
 use borrow.Author.Tests.{eqb-true, leb-true}
 use Rattle.records.specs.declared.record.Record.{Record}
 use Rattle.records.specs.declared.record.Record.the-variants.{Rx, Signal}
-use Rattle.records.specs.Records.{kindOf}
-use Rattle.plan.specs.declared.progress.Row.{Row}
+use Rattle.records.specs.Kinds.{stageOf}
+use Rattle.plan.specs.declared.progress.RowSoFar.{RowSoFar}
 use Rattle.plan.specs.declared.progress.Progress.{Progress}
 use Rattle.plan.specs.Progress.{rowAfter, after}
 use Rattle.plan.specs.Tests.{mayStand}
@@ -46,44 +45,43 @@ module _ (before : List Record) (r : Record) where
   signal-more h d =
       record {
         front = h .front;
-        position = h .position;
-        size = h .size;
+        body = h .body;
         destinations = h .destinations ++ r ∷ [];
-        split = more (h .front) (h .destinations) (Signal (h .position) (h .size)) (h .split);
+        split = more (h .front) (h .destinations) (Signal (h .body)) (h .split);
         only = each-more IsDestination (h .destinations) r (h .only) d;
       }
 
 -- ---- all records
 
 pub record Stand (before : List Record) (p : Progress) : Type 0 where
-  pub rx : 4 ≤ p .last → RxBefore before
-  pub signal : 5 ≤ p .last → SignalBefore before
+  pub rx : 4 ≤ p .stage → RxBefore before
+  pub signal : 5 ≤ p .stage → SignalBefore before
   -- before the first Rx frame
-  pub floor : p .last < 4 → p .row .floor ≡ 0
-  pub awaits : p .last < 4 → p .row .awaits ≡ 0
+  pub floor : p .stage < 4 → p .row .floor ≡ 0
+  pub awaits : p .stage < 4 → p .row .awaits ≡ 0
 
 -- a record that stands before the first Rx frame
-early : (before : List Record) (p : Progress) (r : Record) → Stand before p → p .last < 4 → kindOf r < 4 → rowAfter (p .number) (p .row) r ≡ p .row
+early : (before : List Record) (p : Progress) (r : Record) → Stand before p → p .stage < 4 → stageOf r < 4 → rowAfter (p .number) (p .row) r ≡ p .row
     → Stand (before ++ r ∷ []) (after p r)
 unfolding after
 early before p r h l k e =
     record {
       rx = λ m. absurd (omega arith);
       signal = λ m. absurd (omega arith);
-      floor = λ m. ap (λ (row : Row). row .floor) e ∙ h .floor l;
-      awaits = λ m. ap (λ (row : Row). row .awaits) e ∙ h .awaits l;
+      floor = λ m. ap (λ (row : RowSoFar). row .floor) e ∙ h .floor l;
+      awaits = λ m. ap (λ (row : RowSoFar). row .awaits) e ∙ h .awaits l;
     }
 
 step :
-    (before : List Record) (p : Progress) (r : Record) → Whole r → mayStand (p .last) r ≡ true → Stand before p
+    (before : List Record) (p : Progress) (r : Record) → Whole r → mayStand (p .stage) r ≡ true → Stand before p
     → Stand (before ++ r ∷ []) (after p r)
-unfolding after rowAfter kindOf mayStand Each
-step before p r (head order) e h = let l = eqb-true (p .last) 0 e in early before p r h (omega arith) (omega arith) refl
-step before p r (node type) e h =
-    let l = leb-true (p .last) 2 (and-both (ltb 0 (p .last)) (leb (p .last) 2) e .1) in
+unfolding after rowAfter stageOf mayStand Each
+step before p r (head order) e h = let l = eqb-true (p .stage) 0 e in early before p r h (omega arith) (omega arith) refl
+step before p r (node body) e h =
+    let l = leb-true (p .stage) 2 (and-both (ltb 0 (p .stage)) (leb (p .stage) 2) e .1) in
     early before p r h (omega arith) (omega arith) refl
 step before p r (tx-frame x) e h =
-    let l = leb-true (p .last) 3 (and-both (ltb 0 (p .last)) (leb (p .last) 3) e .1) in
+    let l = leb-true (p .stage) 3 (and-both (ltb 0 (p .stage)) (leb (p .stage) 3) e .1) in
     early before p r h (omega arith) (omega arith) refl
 step before p r (rx-frame x) e h =
     record {
@@ -92,18 +90,18 @@ step before p r (rx-frame x) e h =
       floor = λ k. absurd (omega arith);
       awaits = λ k. absurd (omega arith);
     }
-step before p r (signal q s) e h =
+step before p r (signal g) e h =
     record {
-      rx = λ k. rx-more before r (h .rx (leb-true 4 (p .last) e)) (λ x i. omega (arith, ap kindOf i));
-      signal = λ k. record { front = before; position = q; size = s; destinations = []; split = refl; only = tt };
+      rx = λ k. rx-more before r (h .rx (leb-true 4 (p .stage) e)) (λ x i. omega (arith, ap stageOf i));
+      signal = λ k. record { front = before; body = g; destinations = []; split = refl; only = tt };
       floor = λ k. absurd (omega arith);
       awaits = λ k. absurd (omega arith);
     }
-step before p r (destination t q) e h =
-    let l = leb-true 5 (p .last) e in
+step before p r (destination t) e h =
+    let l = leb-true 5 (p .stage) e in
     record {
-      rx = λ k. rx-more before r (h .rx (omega arith)) (λ x i. omega (arith, ap kindOf i));
-      signal = λ k. signal-more before r (h .signal l) (t, q, refl);
+      rx = λ k. rx-more before r (h .rx (omega arith)) (λ x i. omega (arith, ap stageOf i));
+      signal = λ k. signal-more before r (h .signal l) (t, refl);
       floor = λ k. absurd (omega arith);
       awaits = λ k. absurd (omega arith);
     }

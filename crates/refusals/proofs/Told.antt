@@ -1,5 +1,5 @@
 -- What a record leads to: the check goes on and no line of the table applies to it, or it is refused with the number of the first line that applies,
--- and names the record that this line names. Assumes nothing.
+-- and names the record that this line names.
 use mathlib.Core.Path.{_≡_, refl, sym, ap, _∙_}
 use mathlib.Core.Logic.{_⊎_, inl, inr, ⊎-elim}
 use mathlib.Core.Bool.{Bool, true, false, not, true≢false}
@@ -11,8 +11,9 @@ use lib.ListN.{length}
 use borrow.Author.Tests.{eq-eqb, eqb-true, not-false}
 use Rattle.base.specs.Pick.{pick}
 use Rattle.records.specs.declared.record.Record.{Record}
-use Rattle.records.specs.declared.record.Record.the-variants.{End}
-use Rattle.records.specs.Records.{kindOf}
+use Rattle.records.specs.declared.record.Record.the-variants.{Broken}
+use Rattle.records.specs.declared.record.Fault.the-variants.{End}
+use Rattle.records.specs.Kinds.{stageOf}
 use Rattle.plan.specs.declared.progress.Progress.{Progress}
 use Rattle.plan.specs.declared.progress.Next.{Next}
 use Rattle.plan.specs.declared.progress.Next.the-variants.{Go, Refuse}
@@ -131,8 +132,8 @@ empty before s h =
     none (r ∷ rs) e = absurd (omega arith)
 
 pub told-end : (before : List Record) (s : State) → SoFar before s → Told (atEnd (s .progress)) (s .progress) (endTable before)
-unfolding numberOf kindOf
+unfolding numberOf stageOf
 told-end before s h =
-    told-need _ _ _ _ (follower before s h End) refl (follower-names before s h End) λ f.
+    told-need _ _ _ _ (follower before s h (Broken End)) refl (follower-names before s h (Broken End)) λ f.
     told-need _ _ _ _ (empty before s h) refl (λ w. refl) λ e.
     told-none (s .progress)

@@ -6,8 +6,10 @@ use mathlib.Core.List.{List, [], _∷_, _++_}
 use Prim.Native.Nat.{ℕ}
 use Rattle.records.specs.declared.record.TxFrame.{TxFrame}
 use Rattle.records.specs.declared.record.RxFrame.{RxFrame}
+use Rattle.records.specs.declared.record.SignalBody.{SignalBody}
 use Rattle.records.specs.declared.record.Record.{Record}
 use Rattle.records.specs.declared.record.Record.the-variants.{Tx, Rx, Signal}
+use Rattle.records.specs.Kinds.{txStage}
 use Rattle.plan.specs.Rows.{Claim, rowsFrom, allClaims}
 use Rattle.facts.specs.Good.{Each, Holds, countOf}
 use Rattle.claims.specs.Claims.{IsDestination}
@@ -34,10 +36,9 @@ pub record RxBefore (before : List Record) : Type 0 where
 -- the signal that is being read, with its destinations so far
 pub record SignalBefore (before : List Record) : Type 0 where
   pub front : List Record
-  pub position : ℕ
-  pub size : ℕ
+  pub body : SignalBody
   pub destinations : List Record
-  pub split : before ≡ front ++ Signal position size ∷ destinations
+  pub split : before ≡ front ++ Signal body ∷ destinations
   pub only : Each IsDestination destinations
 
 -- "Nodes, Tx and Rx frames are numbered from 0": Tx frame t has t Tx frames before it
@@ -46,7 +47,7 @@ pub record TxBefore (t : ℕ) (before : List Record) : Type 0 where
   pub frame : TxFrame
   pub since : List Record
   pub split : before ≡ front ++ Tx frame ∷ since
-  pub number : countOf 3 front ≡ t
+  pub number : countOf txStage front ≡ t
 
 -- of some element
 unfoldable pub Some {ℓ} : {A : Type ℓ} → (A → Type 0) → List A → Type 0

@@ -6,25 +6,28 @@ use Prim.Native.Nat.{ℕ, _≤_, _<_}
 use lib.ListN.{length}
 use Rattle.base.specs.Numbers.{byteAt}
 use Rattle.records.specs.declared.record.Eight.{Eight}
-use Rattle.records.specs.declared.record.TxNumber.{TxNumber}
+use Rattle.records.specs.declared.record.NodeBody.{NodeBody}
 use Rattle.records.specs.declared.record.TxFrame.{TxFrame}
 use Rattle.records.specs.declared.record.RxFrame.{RxFrame}
+use Rattle.records.specs.declared.record.SignalBody.{SignalBody}
+use Rattle.records.specs.declared.record.DestinationBody.{DestinationBody}
 use Rattle.records.specs.declared.record.Record.{Record}
 use Rattle.records.specs.declared.record.Record.the-variants.{Head, Node, Tx, Rx, Signal, Destination}
 use Rattle.records.specs.Records.{eightBytes}
+use Rattle.records.specs.Kinds.{nodeStage, txStage, rxStage, signalStage, destinationStage}
 use Rattle.facts.specs.Good.{countOf}
 use Rattle.refusals.specs.Before.{_or_, _and_, RxBefore, SignalBefore}
 
 -- ---- 4: "At most 16 nodes, 256 Tx frames, 256 Rx frames, 1,024 signals (64 in a frame), 2,048 destinations (15 for a signal)."
 
 pub data TooMany (before : List Record) : Record → Type 0 where
-  nodes : (type : ℕ) → 16 ≤ countOf 2 before → TooMany before (Node type)
-  tx-frames : (x : TxFrame) → 256 ≤ countOf 3 before → TooMany before (Tx x)
-  rx-frames : (x : RxFrame) → 256 ≤ countOf 4 before → TooMany before (Rx x)
-  signals : (p s : ℕ) → 1024 ≤ countOf 5 before → TooMany before (Signal p s)
-  in-a-frame : (p s : ℕ) (rx : RxBefore before) → 64 ≤ countOf 5 (rx .since) → TooMany before (Signal p s)
-  destinations : (t : TxNumber) (q : ℕ) → 2048 ≤ countOf 6 before → TooMany before (Destination t q)
-  for-a-signal : (t : TxNumber) (q : ℕ) (signal : SignalBefore before) → 15 ≤ length (signal .destinations) → TooMany before (Destination t q)
+  nodes : (body : NodeBody) → 16 ≤ countOf nodeStage before → TooMany before (Node body)
+  tx-frames : (x : TxFrame) → 256 ≤ countOf txStage before → TooMany before (Tx x)
+  rx-frames : (x : RxFrame) → 256 ≤ countOf rxStage before → TooMany before (Rx x)
+  signals : (g : SignalBody) → 1024 ≤ countOf signalStage before → TooMany before (Signal g)
+  in-a-frame : (g : SignalBody) (rx : RxBefore before) → 64 ≤ countOf signalStage (rx .since) → TooMany before (Signal g)
+  destinations : (t : DestinationBody) → 2048 ≤ countOf destinationStage before → TooMany before (Destination t)
+  for-a-signal : (t : DestinationBody) (signal : SignalBefore before) → 15 ≤ length (signal .destinations) → TooMany before (Destination t)
 
 -- ---- 5: "Ranges: order 0–1; type 0; node below the node count; ID 0–2047; size 0–8; prescaler 1, 2, 10 or 20; flags 0–3; payload bytes past
 -- the size zero; enable 0–1; failure position 0–63; long count 0–15; positions 0–63; signal size 1–64."
@@ -39,15 +42,15 @@ NotZeroPast size b = (i : ℕ) × (size ≤ i) × (byteAt (eightBytes b) i ≢ 0
 -- the nodes stand before all frames, so the node count is that of the nodes before
 pub data OutOfRange (before : List Record) : Record → Type 0 where
   head : (order : ℕ) → 1 < order → OutOfRange before (Head order)
-  node : (type : ℕ) → type ≢ 0 → OutOfRange before (Node type)
+  node : (body : NodeBody) → body .of ≢ 0 → OutOfRange before (Node body)
   tx-frame : (x : TxFrame)
-      → (countOf 2 before ≤ x .node) or (2047 < x .id) or (8 < x .size) or NoPrescaler (x .prescaler) or (3 < x .flags)
+      → (countOf nodeStage before ≤ x .node) or (2047 < x .id) or (8 < x .size) or NoPrescaler (x .prescaler) or (3 < x .flags)
       or NotZeroPast (x .size) (x .payload) → OutOfRange before (Tx x)
   rx-frame : (x : RxFrame)
-      → (countOf 2 before ≤ x .node) or (2047 < x .id) or (8 < x .size) or NoPrescaler (x .prescaler) or (1 < x .enable) or (63 < x .position)
+      → (countOf nodeStage before ≤ x .node) or (2047 < x .id) or (8 < x .size) or NoPrescaler (x .prescaler) or (1 < x .enable) or (63 < x .position)
       or (15 < x .long) → OutOfRange before (Rx x)
-  signal : (p s : ℕ) → (63 < p) or (s < 1) or (64 < s) → OutOfRange before (Signal p s)
-  destination : (t : TxNumber) (q : ℕ) → 63 < q → OutOfRange before (Destination t q)
+  signal : (g : SignalBody) → (63 < g .position) or (g .size < 1) or (64 < g .size) → OutOfRange before (Signal g)
+  destination : (t : DestinationBody) → 63 < t .position → OutOfRange before (Destination t)
 
 -- ---- 6: "an Rx frame's (node, ID) is not above that of the one before"
 

@@ -2,29 +2,32 @@
 use mathlib.Core.Path.{_≡_}
 use mathlib.Core.List.{List, [], _∷_, _++_}
 use Prim.Native.Nat.{ℕ}
-use Rattle.records.specs.declared.record.TxNumber.{TxNumber}
+use Rattle.records.specs.declared.record.NodeBody.{NodeBody}
 use Rattle.records.specs.declared.record.TxFrame.{TxFrame}
 use Rattle.records.specs.declared.record.RxFrame.{RxFrame}
+use Rattle.records.specs.declared.record.SignalBody.{SignalBody}
+use Rattle.records.specs.declared.record.DestinationBody.{DestinationBody}
 use Rattle.records.specs.declared.record.Record.{Record}
-use Rattle.records.specs.declared.record.Record.the-variants.{Head, Node, Tx, Rx, Signal, Destination, Cut}
+use Rattle.records.specs.declared.record.Record.the-variants.{Head, Node, Tx, Rx, Signal, Destination, Broken}
+use Rattle.records.specs.declared.record.Fault.the-variants.{Cut}
 use Rattle.refusals.specs.Before.{RxBefore}
 
 -- the kind that a record's kind byte says, which one that is cut short has too; an unknown kind and the end have none
 pub data OfKind : ℕ → Record → Type 0 where
   head : (order : ℕ) → OfKind 1 (Head order)
-  node : (type : ℕ) → OfKind 2 (Node type)
+  node : (body : NodeBody) → OfKind 2 (Node body)
   tx-frame : (x : TxFrame) → OfKind 3 (Tx x)
   rx-frame : (x : RxFrame) → OfKind 4 (Rx x)
-  signal : (p s : ℕ) → OfKind 5 (Signal p s)
-  destination : (t : TxNumber) (q : ℕ) → OfKind 6 (Destination t q)
-  cut : (kind : ℕ) → OfKind kind (Cut kind)
+  signal : (g : SignalBody) → OfKind 5 (Signal g)
+  destination : (t : DestinationBody) → OfKind 6 (Destination t)
+  cut : (kind : ℕ) → OfKind kind (Broken (Cut kind))
 
 -- ---- 9: "an enabled indicator's Rx frame is not followed at once by a signal and a destination (judged by kind byte)"
 
 -- the records since the Rx frame, and the one that is not what should follow them
 pub data NotFollowed : List Record → Record → Type 0 where
   no-signal : (r : Record) → (OfKind 5 r → ⊥) → NotFollowed [] r
-  no-destination : (p s : ℕ) (r : Record) → (OfKind 6 r → ⊥) → NotFollowed (Signal p s ∷ []) r
+  no-destination : (g : SignalBody) (r : Record) → (OfKind 6 r → ⊥) → NotFollowed (Signal g ∷ []) r
 
 pub record MissingFollower (before : List Record) (r : Record) : Type 0 where
   pub rx : RxBefore before
@@ -39,23 +42,23 @@ UnknownKind r = (kind : ℕ) → OfKind kind r → ⊥
 -- ---- 1: "the record runs past its end"
 
 abbrev pub RunsPast : Record → Type 0
-RunsPast r = (kind : ℕ) × (r ≡ Cut kind)
+RunsPast r = (kind : ℕ) × (r ≡ Broken (Cut kind))
 
 -- ---- 3: "the kind may not stand here"
 
 -- "then nodes, then Tx frames, then Rx frames, each followed by its signals, each followed by its destinations"
 pub data MayFollow : Record → Record → Type 0 where
-  head-node : (order type : ℕ) → MayFollow (Head order) (Node type)
-  node-node : (type′ type : ℕ) → MayFollow (Node type′) (Node type)
+  head-node : (order : ℕ) (body : NodeBody) → MayFollow (Head order) (Node body)
+  node-node : (body′ body : NodeBody) → MayFollow (Node body′) (Node body)
   head-tx : (order : ℕ) (x : TxFrame) → MayFollow (Head order) (Tx x)
-  node-tx : (type : ℕ) (x : TxFrame) → MayFollow (Node type) (Tx x)
+  node-tx : (body : NodeBody) (x : TxFrame) → MayFollow (Node body) (Tx x)
   tx-tx : (y x : TxFrame) → MayFollow (Tx y) (Tx x)
   any-rx : (y : Record) (x : RxFrame) → MayFollow y (Rx x)
-  rx-signal : (x : RxFrame) (p s : ℕ) → MayFollow (Rx x) (Signal p s)
-  signal-signal : (p′ s′ p s : ℕ) → MayFollow (Signal p′ s′) (Signal p s)
-  destination-signal : (t : TxNumber) (q p s : ℕ) → MayFollow (Destination t q) (Signal p s)
-  signal-destination : (p s : ℕ) (t : TxNumber) (q : ℕ) → MayFollow (Signal p s) (Destination t q)
-  destination-destination : (t′ : TxNumber) (q′ : ℕ) (t : TxNumber) (q : ℕ) → MayFollow (Destination t′ q′) (Destination t q)
+  rx-signal : (x : RxFrame) (g : SignalBody) → MayFollow (Rx x) (Signal g)
+  signal-signal : (g′ g : SignalBody) → MayFollow (Signal g′) (Signal g)
+  destination-signal : (t : DestinationBody) (g : SignalBody) → MayFollow (Destination t) (Signal g)
+  signal-destination : (g : SignalBody) (t : DestinationBody) → MayFollow (Signal g) (Destination t)
+  destination-destination : (t′ t : DestinationBody) → MayFollow (Destination t′) (Destination t)
 
 -- "One head first", and then what may follow the last record
 pub data MayStand : List Record → Record → Type 0 where

@@ -4,6 +4,7 @@ use mathlib.Core.Logic.{_↔_}
 use mathlib.Core.List.{List}
 use Prim.Native.Nat.{ℕ}
 use Rattle.records.specs.Records.{records}
+use Rattle.records.specs.Kinds.{nodeStage, txStage, rxStage}
 use Rattle.plan.specs.declared.verdict.Reason.{Reason}
 use Rattle.plan.specs.declared.verdict.Verdict.the-variants.{Good, Refused}
 use Rattle.plan.specs.Refusals.{numberOf}
@@ -20,7 +21,7 @@ RefusedExactly =
 abbrev pub GoodExactly : Type 0
 GoodExactly =
     (plan : List ℕ)
-    → (checkPlan plan ≡ Good (countOf 2 (records plan)) (countOf 3 (records plan)) (countOf 4 (records plan)))
+    → (checkPlan plan ≡ Good (countOf nodeStage (records plan)) (countOf txStage (records plan)) (countOf rxStage (records plan)))
     ↔ Unrefused plan
 
 -- no plan has two refusals

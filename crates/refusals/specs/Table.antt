@@ -4,7 +4,8 @@ use mathlib.Core.List.{List, [], _∷_, _++_}
 use Prim.Native.Nat.{ℕ}
 use lib.ListN.{length}
 use Rattle.records.specs.declared.record.Record.{Record}
-use Rattle.records.specs.declared.record.Record.the-variants.{End}
+use Rattle.records.specs.declared.record.Record.the-variants.{Broken}
+use Rattle.records.specs.declared.record.Fault.the-variants.{End}
 use Rattle.records.specs.Records.{records}
 use Rattle.refusals.specs.Before.{_or_, _and_}
 use Rattle.refusals.specs.Places.{MissingFollower, UnknownKind, RunsPast, Misplaced}
@@ -48,7 +49,7 @@ table before r =
 
 -- "At each record, or the end": there 9 as before, and then 1 where "the input is empty"
 abbrev pub endTable : List Record → List Line
-endTable before = followers before End ∷ line 0 1 (before ≡ []) ∷ []
+endTable before = followers before (Broken End) ∷ line 0 1 (before ≡ []) ∷ []
 
 -- r is bad after the records before it
 abbrev pub Bad : List Record → Record → ℕ → ℕ → Type 0

@@ -1,4 +1,4 @@
--- Each bit of a payload is one digit of its number. Assumes nothing.
+-- Each bit of a payload is one digit of its number.
 use mathlib.Core.Path.{_≡_, refl, sym, ap, _∙_}
 use mathlib.Core.Logic.{dite}
 use mathlib.Core.List.{List, [], _∷_}

@@ -1,4 +1,4 @@
--- The clock by the tick's number: the laws of the counter and of the masks say it. Assumes nothing.
+-- The clock by the tick's number: the laws of the counter and of the masks say it.
 use mathlib.Core.Path.{refl, sym, _∙_}
 use Prim.Native.Nat.{ℕ, _+_, _%_}
 use native.Mathlib.Omega.{arith}

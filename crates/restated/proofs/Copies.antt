@@ -1,4 +1,4 @@
--- A copy stores the source's signal in the kept payload, and a change is a difference of two signals. Assumes nothing.
+-- A copy stores the source's signal in the kept payload, and a change is a difference of two signals.
 use mathlib.Core.Path.{_≡_, refl, sym, _∙_}
 use mathlib.Core.Bool.{Bool, true, false, true≢false}
 use mathlib.Core.Logic.{_≢_, _↔_}

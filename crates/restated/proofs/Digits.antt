@@ -1,4 +1,4 @@
--- The digits of a number's parts. Assumes nothing.
+-- The digits of a number's parts.
 use mathlib.Core.Path.{_≡_, sym, ap, _∙_}
 use Prim.Native.Nat.{ℕ, _+_, _-_, _/_, _%_, _^_, _<_}
 use native.Mathlib.Nat.{zero-div, mod-lt}

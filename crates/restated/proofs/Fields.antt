@@ -1,4 +1,4 @@
--- The bits of a signal are a field of its payload's number: where its digits stand, and what other bits there make of the number. Assumes nothing.
+-- The bits of a signal are a field of its payload's number: where its digits stand, and what other bits there make of the number.
 use mathlib.Core.Path.{_≡_, refl, sym, ap, _∙_}
 use mathlib.Core.Logic.{_≢_, _⊎_, inl, inr}
 use mathlib.Core.List.{List}

@@ -1,4 +1,4 @@
--- The owned bits by digits: the laws of the set, with a range's bits by their numbers. Assumes nothing.
+-- The owned bits by digits: the laws of the set, with a range's bits by their numbers.
 use mathlib.Core.Path.{_≡_, refl, sym, ap, _∙_}
 use mathlib.Core.Bool.{Bool, true, false, true≢false}
 use mathlib.Core.Logic.{_⊎_, inl, inr, ⊎-elim, _↔_}

@@ -1,4 +1,4 @@
--- The search by its looks. Assumes nothing.
+-- The search by its looks.
 use mathlib.Core.Path.{_≡_, refl, sym, _∙_}
 use mathlib.Core.Logic.{_≢_, inl, inr, ⊎-elim, dite}
 use mathlib.Core.List.{List, _++_}
@@ -14,7 +14,8 @@ use Rattle.base.specs.Pick.{pick}
 use Rattle.base.specs.Numbers.{byteAt}
 use Rattle.reception.specs.declared.lookup.Found.{Found}
 use Rattle.reception.specs.declared.lookup.Found.the-variants.{Nothing}
-use Rattle.reception.specs.Lookup.{keyAt, lookOnce, lookIn, rowCount, lookedUp}
+use Rattle.area.specs.Layout.{keyAt, rowCount}
+use Rattle.reception.specs.Lookup.{lookOnce, lookIn, lookedUp}
 use Rattle.reception.proofs.Search.{lower, upper}
 use Rattle.restated.specs.Search.{Middle, Halves, Looks, SearchByLooks}
 

@@ -5,7 +5,8 @@ use mathlib.Core.Logic.{_⊎_}
 use Prim.Native.Nat.{ℕ, suc, _+_, _*_, _^_, _≤_, _<_}
 use lib.ListN.{length}
 use Rattle.reception.specs.declared.lookup.Found.the-variants.{At, Nothing}
-use Rattle.reception.specs.Lookup.{keyAt, lookIn, firstRow, rowCount, rowsPart, lookedUp}
+use Rattle.area.specs.Layout.{keyAt, firstRow, rowCount}
+use Rattle.reception.specs.Lookup.{lookIn, rowsPart, lookedUp}
 
 -- rows of six bytes, of which a stand before the middle one and b after it: as many, or one more before it
 pub record Middle (rows low middle high : List ℕ) (a b : ℕ) : Type 0 where

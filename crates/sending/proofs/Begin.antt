@@ -1,4 +1,4 @@
--- An area that was just opened is ready to send: its queues are empty. Assumes nothing.
+-- An area that was just opened is ready to send: its queues are empty.
 use mathlib.Core.Path.{_≡_}
 use mathlib.Core.List.{List, []}
 use Prim.Native.Nat.{ℕ}

@@ -1,4 +1,4 @@
--- Different numbers, each of a Tx frame of node n, are no more than node n has frames. Assumes nothing.
+-- Different numbers, each of a Tx frame of node n, are no more than node n has frames.
 use mathlib.Core.Path.{_≡_, refl}
 use mathlib.Core.Logic.{_≢_, _⊎_, inl, inr, ⊎-elim}
 use mathlib.Core.List.{List, [], _∷_}
@@ -8,7 +8,7 @@ use native.Mathlib.Omega.{arith}
 use lib.Dec.{ltb, eqb}
 use lib.ListN.{length, getD}
 use borrow.Author.Tests.{eq-eqb, ltb-true, ltb-false}
-use Rattle.records.specs.Records.{noTx}
+use Rattle.records.specs.Views.{noTx}
 use Rattle.base.specs.Pick.{pick}
 use Rattle.base.proofs.Picks.{picks, cases}
 use Rattle.records.specs.declared.record.TxFrame.{TxFrame}

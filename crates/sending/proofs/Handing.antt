@@ -1,9 +1,9 @@
--- What a take answers, in an area that holds a plan. Assumes nothing.
+-- What a take answers, in an area that holds a plan.
 use mathlib.Core.Path.{_≡_, refl, sym, ap, _∙_}
 use mathlib.Core.Logic.{_≢_}
 use mathlib.Core.Bool.{false}
 use mathlib.Core.List.{List, [], _∷_}
-use Prim.Native.Nat.{ℕ, suc, _-_, _%_, _≤_, _<_}
+use Prim.Native.Nat.{ℕ, suc, _-_, _≤_, _<_}
 use native.Mathlib.Omega.{arith}
 use borrow.Author.Tests.{eq-eqb, ne-eqb, lt-ltb}
 use lib.Dec.{eqb}
@@ -11,12 +11,12 @@ use lib.ListN.{length, take}
 use Rattle.base.proofs.Picks.{picks, passes, by-eqb}
 use Rattle.records.specs.Records.{records}
 use Rattle.plan.specs.Rows.{txOf, nodesIn}
-use Rattle.area.specs.Layout.{waits, nodeCount}
+use Rattle.area.specs.Layout.{waits, nodeCount, inWidth}
 use Rattle.area.specs.Queue.{endsOf, oldest, dequeued, queueOf}
 use Rattle.area.proofs.QueueLaws.{length-queueOf, queue-dequeued-other}
 use Rattle.answers.specs.declared.Taken.the-variants as taken
 use Rattle.taking.specs.Taken.{oldestAnswer, oldestArea, takenAnswer, takenArea}
-use Rattle.tables.specs.Reads.{txAt, Reads}
+use Rattle.tables.specs.Reads.{plannedTx, Reads}
 use Rattle.sending.proofs.Moves.{Ready}
 use Rattle.sending.proofs.Takes.{leaves, frame}
 
@@ -24,7 +24,7 @@ use Rattle.sending.proofs.Takes.{leaves, frame}
 pub record Takes (plan a : List ℕ) (n : ℕ) : Type 0 where
   pub none : queueOf a n ≡ [] → (takenAnswer a n ≡ taken.Nothing) × (takenArea a n ≡ a)
   pub oldest : (t : ℕ) (rest : List ℕ) → queueOf a n ≡ t ∷ rest
-      → takenAnswer a n ≡ taken.Frame (record { 0 = t }) (txAt plan t .id) (txAt plan t .size) (length rest)
+      → takenAnswer a n ≡ taken.Frame (record { 0 = t }) (plannedTx plan t .id) (plannedTx plan t .size) (length rest)
   pub leaves : (t : ℕ) (rest : List ℕ) → queueOf a n ≡ t ∷ rest → queueOf (takenArea a n) n ≡ rest
   pub others : (m : ℕ) → m < 16 → m ≢ n → queueOf (takenArea a n) m ≡ queueOf a m
 
@@ -79,13 +79,13 @@ module _ {plan a : List ℕ} (reads : Reads plan a) (r : Ready plan a) (n : ℕ)
     few : t < 256
     few = omega (arith, exists, r .holding .fit .tx)
 
-    small : txAt plan t .size ≤ 8
+    small : plannedTx plan t .size ≤ 8
     small = r .holding .fit .size t exists
 
-    whole : txAt plan t .size % 9 ≡ txAt plan t .size
+    whole : inWidth (plannedTx plan t .size) ≡ plannedTx plan t .size
     whole = omega (arith, small)
 
-    answered : takenAnswer a n ≡ taken.Frame (record { 0 = t }) (txAt plan t .id) (txAt plan t .size) (length rest)
+    answered : takenAnswer a n ≡ taken.Frame (record { 0 = t }) (plannedTx plan t .id) (plannedTx plan t .size) (length rest)
     unfolding oldestAnswer
     answered =
         let c : endsOf a n .waiting - 1 ≡ length rest = omega (arith, count) in

@@ -1,20 +1,20 @@
--- What the queues need of an area that holds a good plan. No call after the opening changes it. Assumes nothing.
+-- What the queues need of an area that holds a good plan. No call after the opening changes it.
 use mathlib.Core.Path.{_≡_, _∙_}
 use mathlib.Core.List.{List}
-use Prim.Native.Nat.{ℕ, _≤_, _<_}
+use Prim.Native.Nat.{ℕ, _<_}
 use native.Mathlib.Omega.{arith}
 use lib.ListN.{length}
 use Rattle.plan.specs.Rows.{rowsOf, txOf}
 use Rattle.facts.specs.Good.{Each}
-use Rattle.area.specs.Layout.{txFrame, claims}
+use Rattle.area.specs.Layout.{LongEnough, txFrame, claims}
 use Rattle.area.proofs.Kept.{Kept, txFrame-kept, claims-kept, start-kept, room-kept}
-use Rattle.tables.specs.Reads.{txAt, Reads, Rings}
+use Rattle.tables.specs.Reads.{plannedTx, Reads, Rings}
 use Rattle.sending.proofs.Plans.{Lies, Sendable}
 
 pub record Holding (plan a : List ℕ) : Type 0 where
   pub fit : Sendable plan
-  pub size : 32768 ≤ length a
-  pub frame : (t : ℕ) → t < length (txOf plan) → txFrame a t ≡ txAt plan t
+  pub size : LongEnough a
+  pub frame : (t : ℕ) → t < length (txOf plan) → txFrame a t ≡ plannedTx plan t
   pub lies : (r : ℕ) → r < length (rowsOf plan) → Each (Lies plan) (claims a r)
   pub rings : (n : ℕ) → n < 16 → Rings plan a n
 

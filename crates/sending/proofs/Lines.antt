@@ -1,4 +1,4 @@
--- A list of frames that wait on a node: who may stand in it, and what a frame that joins or leaves makes of it. Assumes nothing.
+-- A list of frames that wait on a node: who may stand in it, and what a frame that joins or leaves makes of it.
 use mathlib.Core.Path.{_≡_, sym}
 use mathlib.Core.Logic.{_≢_, _⊎_, inl, inr, ⊎-elim}
 use mathlib.Core.List.{List, [], _∷_, _++_}
@@ -13,14 +13,14 @@ use Rattle.area.specs.Layout.{waits}
 use Rattle.area.specs.Queue.{endsOf, queueOf}
 use Rattle.area.proofs.Kept.{Kept, room-kept}
 use Rattle.area.proofs.QueueLaws.{length-queueOf}
-use Rattle.tables.specs.Reads.{txAt, framesOn}
+use Rattle.tables.specs.Reads.{plannedTx, framesOn}
 use Rattle.sending.proofs.Queues.{waiter, Queue}
 use Rattle.sending.proofs.Counting.{no-more}
 use Rattle.sending.proofs.Holding.{Holding}
 
 pub record Line (plan a : List ℕ) (n : ℕ) (q : List ℕ) : Type 0 where
   pub frame : (i : ℕ) → i < length q → getD q i 0 < length (txOf plan)
-  pub node : (i : ℕ) → i < length q → txAt plan (getD q i 0) .node ≡ n
+  pub node : (i : ℕ) → i < length q → plannedTx plan (getD q i 0) .node ≡ n
   pub marked : (i : ℕ) → i < length q → byteAt a (waits (getD q i 0)) ≢ 0
   pub once : (i j : ℕ) → i < j → j < length q → getD q i 0 ≢ getD q j 0
 
@@ -59,12 +59,12 @@ module _ {plan a : List ℕ} {n : ℕ} where
       }
 
   pub line-joined :
-      {q : List ℕ} (t : ℕ) → t < length (txOf plan) → txAt plan t .node ≡ n → byteAt a (waits t) ≢ 0 → ((i : ℕ) → i < length q → getD q i 0 ≢ t)
+      {q : List ℕ} (t : ℕ) → t < length (txOf plan) → plannedTx plan t .node ≡ n → byteAt a (waits t) ≢ 0 → ((i : ℕ) → i < length q → getD q i 0 ≢ t)
       → Line plan a n q → Line plan a n (q ++ (t ∷ []))
   line-joined {q} t frame node marked new line =
       record {
         frame = each-joined (λ x. x < length (txOf plan)) q t (line .frame) frame;
-        node = each-joined (λ x. txAt plan x .node ≡ n) q t (line .node) node;
+        node = each-joined (λ x. plannedTx plan x .node ≡ n) q t (line .node) node;
         marked = each-joined (λ x. byteAt a (waits x) ≢ 0) q t (line .marked) marked;
         once = λ i j h l.
             let old : getD q i 0 ≢ getD (q ++ (t ∷ [])) j 0 =

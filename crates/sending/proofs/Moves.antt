@@ -1,12 +1,12 @@
 -- A change that only adds to the queues, at their ends: what it leaves of an area that holds a plan. Such changes follow one another, and one that
--- leaves the queues, their rings and the marks of those that wait is one. Assumes nothing.
+-- leaves the queues, their rings and the marks of those that wait is one.
 use mathlib.Core.Path.{_≡_, refl, sym, _∙_}
 use mathlib.Core.List.{List, [], _++_, append-nil, append-assoc}
 use Prim.Native.Nat.{ℕ, _+_, _≤_, _<_}
 use native.Mathlib.Omega.{arith}
 use lib.ListN.{length-append, List·getD-append}
 use Rattle.base.specs.Numbers.{byteAt}
-use Rattle.area.specs.Layout.{queue, waits}
+use Rattle.area.specs.Layout.{counterByte, queuesStart, txTimersStart, waitsStart, payloadsStart, planStart, queue, waits}
 use Rattle.area.specs.Queue.{endsOf, queueOf}
 use Rattle.area.proofs.Frame.{Same, same-two, same-fewer}
 use Rattle.area.proofs.Kept.{Kept, kept-refl, kept-then}
@@ -63,16 +63,17 @@ module _ {plan a : List ℕ} where
 
 -- all places but the timers and long counters, the payloads and masks, and the counter
 pub record Resting (j : ℕ) : Type 0 where
-  pub timers : 208 ≤ j → j < 1488 → ⊥
-  pub payloads : 6384 ≤ j → j < 8960 → ⊥
-  pub count : j ≡ 2 → ⊥
+  pub timers : txTimersStart ≤ j → j < waitsStart → ⊥
+  pub payloads : payloadsStart ≤ j → j < planStart → ⊥
+  pub count : j ≡ counterByte → ⊥
 
 abbrev pub Rests : List ℕ → List ℕ → Type 0
 Rests a b = Same Resting a b
 
 -- where the oldest entry is stands in the records of the queues
 pub first-same :
-    {P : ℕ → Type 0} {a b : List ℕ} → ((j : ℕ) → 80 ≤ j → j < 208 → P j) → Same P a b → (n : ℕ) → n < 16 → endsOf b n .first ≡ endsOf a n .first
+    {P : ℕ → Type 0} {a b : List ℕ} → ((j : ℕ) → queuesStart ≤ j → j < txTimersStart → P j) → Same P a b
+    → (n : ℕ) → n < 16 → endsOf b n .first ≡ endsOf a n .first
 unfolding endsOf
 first-same records s n h = same-two s (queue n + 4) (records _ (omega arith) (omega arith)) (records _ (omega arith) (omega arith))
 

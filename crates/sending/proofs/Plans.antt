@@ -1,10 +1,10 @@
--- What a good plan says of its Tx frames and of its claims, by number. Assumes nothing.
+-- What a good plan says of its Tx frames and of its claims, by number.
 use mathlib.Core.Path.{_≡_}
 use mathlib.Core.List.{List, [], _∷_}
 use Prim.Native.Nat.{ℕ, _+_, _≤_, _<_}
 use native.Mathlib.Omega.{arith}
 use lib.ListN.{length}
-use Rattle.records.specs.Records.{noTx}
+use Rattle.records.specs.Views.{noTx}
 use Rattle.records.specs.declared.record.Record.the-variants.{Tx}
 use Rattle.plan.specs.declared.verdict.Verdict.the-variants.{Good}
 use Rattle.plan.specs.Check.{checkPlan}
@@ -14,7 +14,7 @@ use Rattle.facts.specs.Statements.{Small}
 use Rattle.facts.proofs.Sizes.{sizes-length}
 use Rattle.facts.proofs.GoodFacts.{good-facts}
 use Rattle.facts.proofs.ByNumber.{frame-ranges, row-each, claims-small}
-use Rattle.tables.specs.Reads.{txAt, rowAt}
+use Rattle.tables.specs.Reads.{plannedTx, rowAt}
 
 -- a claim lies in the 64 bits of a Tx frame of the plan
 pub record Lies (plan : List ℕ) (c : Claim) : Type 0 where
@@ -24,8 +24,8 @@ pub record Lies (plan : List ℕ) (c : Claim) : Type 0 where
 pub record Sendable (plan : List ℕ) : Type 0 where
   pub tx : length (txOf plan) ≤ 256
   pub rx : length (rowsOf plan) ≤ 256
-  pub node : (t : ℕ) → t < length (txOf plan) → txAt plan t .node < 16
-  pub size : (t : ℕ) → t < length (txOf plan) → txAt plan t .size ≤ 8
+  pub node : (t : ℕ) → t < length (txOf plan) → plannedTx plan t .node < 16
+  pub size : (t : ℕ) → t < length (txOf plan) → plannedTx plan t .size ≤ 8
   pub claims : (r : ℕ) → r < length (rowsOf plan) → Each (Lies plan) (rowAt plan r .claims)
 
 -- ---- the claims

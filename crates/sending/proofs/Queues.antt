@@ -8,7 +8,7 @@ use Rattle.base.specs.Numbers.{byteAt}
 use Rattle.plan.specs.Rows.{txOf}
 use Rattle.area.specs.Layout.{waits}
 use Rattle.area.specs.Queue.{endsOf, queueOf, Sound}
-use Rattle.tables.specs.Reads.{txAt, framesOn}
+use Rattle.tables.specs.Reads.{plannedTx, framesOn}
 
 -- the i-th oldest of the frames that wait on node n
 abbrev pub waiter : List ℕ → ℕ → ℕ → ℕ
@@ -19,7 +19,7 @@ pub record Queue (plan a : List ℕ) (n : ℕ) : Type 0 where
   pub sound : Sound (endsOf a n)
   -- those that wait are Tx frames of node n, and are marked as waiting
   pub frame : (i : ℕ) → i < length (queueOf a n) → waiter a n i < length (txOf plan)
-  pub node : (i : ℕ) → i < length (queueOf a n) → txAt plan (waiter a n i) .node ≡ n
+  pub node : (i : ℕ) → i < length (queueOf a n) → plannedTx plan (waiter a n i) .node ≡ n
   pub marked : (i : ℕ) → i < length (queueOf a n) → byteAt a (waits (waiter a n i)) ≢ 0
   -- no frame stands in it twice
   pub once : (i j : ℕ) → i < j → j < length (queueOf a n) → waiter a n i ≢ waiter a n j
@@ -34,7 +34,7 @@ pub record Stands (a : List ℕ) (n t : ℕ) : Type 0 where
 
 pub record Queues (plan a : List ℕ) : Type 0 where
   pub queue : (n : ℕ) → n < 16 → Queue plan a n
-  pub stands : (t : ℕ) → t < length (txOf plan) → byteAt a (waits t) ≢ 0 → Stands a (txAt plan t .node) t
+  pub stands : (t : ℕ) → t < length (txOf plan) → byteAt a (waits t) ≢ 0 → Stands a (plannedTx plan t .node) t
 
 -- what a change that only adds to a queue, at its end, makes of it
 pub record Grows (a b : List ℕ) (n : ℕ) : Type 0 where

@@ -1,8 +1,8 @@
--- A frame that is scheduled in an area that holds a plan: it joins its node's queue unless it waits, and the other queues stay. Assumes nothing.
+-- A frame that is scheduled in an area that holds a plan: it joins its node's queue unless it waits, and the other queues stay.
 use mathlib.Core.Path.{_≡_, refl, ap, _∙_}
 use mathlib.Core.Logic.{_≢_}
 use mathlib.Core.List.{List, [], _∷_, _++_}
-use Prim.Native.Nat.{ℕ, _+_, _%_, _≤_, _<_}
+use Prim.Native.Nat.{ℕ, _+_, _%_, _<_}
 use native.Mathlib.Nat.{mod-eq-of-lt}
 use native.Mathlib.Decide.{ℕ-discrete}
 use native.Mathlib.Omega.{arith}
@@ -12,13 +12,13 @@ use lib.Seq.{getD-append-seam, getD-set-same, getD-set-other}
 use Rattle.base.specs.Numbers.{byteAt}
 use Rattle.base.proofs.Picks.{picks}
 use Rattle.plan.specs.Rows.{txOf}
-use Rattle.area.specs.Layout.{waits, txTimer, txFrame}
+use Rattle.area.specs.Layout.{txTimersStart, LongEnough, waits, txTimer, txFrame}
 use Rattle.area.specs.Queue.{endsOf, added, queued, scheduled, queueOf}
 use Rattle.area.proofs.Frame.{same-refl, same-set, same-queued, same-scheduled}
 use Rattle.area.proofs.Kept.{Kept, kept-scheduled, room-kept}
 use Rattle.area.proofs.QueueLaws.{length-queueOf, scheduled-waiting, queue-scheduled}
 use Rattle.area.proofs.QueueLaws.{ends-queued, queue-queued, ends-queued-other, queue-queued-other}
-use Rattle.tables.specs.Reads.{txAt}
+use Rattle.tables.specs.Reads.{plannedTx}
 use Rattle.sending.proofs.Queues.{waiter, Queue, Stands}
 use Rattle.sending.proofs.Queues.{Grows}
 use Rattle.sending.proofs.Holding.{holding-kept}
@@ -30,7 +30,7 @@ module _ {plan a : List ℕ} (r : Ready plan a) (t : ℕ) (h : t < length (txOf 
 
   -- its node, and the area after
   abbrev n : ℕ
-  n = txAt plan t .node
+  n = plannedTx plan t .node
 
   abbrev b : List ℕ
   b = scheduled a t
@@ -68,7 +68,7 @@ module _ {plan a : List ℕ} (r : Ready plan a) (t : ℕ) (h : t < length (txOf 
     unfolding scheduled
     parts = rw (picks _ _ _ (eq-eqb _ _ free), here)
 
-    long : 32768 ≤ length (queued a n t)
+    long : LongEnough (queued a n t)
     long = omega (arith, holding .size, same-queued {P = λ j. ⊥} a n t (λ j x y p. p) (λ j x y p. p) .len)
 
     -- "its Tx timer takes its reload value"
@@ -94,7 +94,7 @@ module _ {plan a : List ℕ} (r : Ready plan a) (t : ℕ) (h : t < length (txOf 
     first : (m : ℕ) → m < 16 → endsOf b m .first ≡ endsOf a m .first
     unfolding added
     first m l =
-        let s = first-same {P = λ j. j < 208} (λ j x y. y)
+        let s = first-same {P = λ j. j < txTimersStart} (λ j x y. y)
         (same-set (txTimer t + 1) _ (λ p. omega arith) (same-set (waits t) 1 (λ p. omega arith) (same-refl (queued a n t)))) m l in
         rw parts (s ∙ go (ℕ-discrete m n))
       where
@@ -130,10 +130,10 @@ module _ {plan a : List ℕ} (r : Ready plan a) (t : ℕ) (h : t < length (txOf 
             (line-marked (line-of x) (marks n below)))))
         go (no d) = queue-stays kept (holding-kept kept holding) l (first m l) (stays m l d) (marks m l) (queues .queue m l)
 
-    stands : (u : ℕ) → u < length (txOf plan) → byteAt b (waits u) ≢ 0 → Stands b (txAt plan u .node) u
+    stands : (u : ℕ) → u < length (txOf plan) → byteAt b (waits u) ≢ 0 → Stands b (plannedTx plan u .node) u
     stands u l d = go (ℕ-discrete u t)
       where
-        go : Dec (u ≡ t) → Stands b (txAt plan u .node) u
+        go : Dec (u ≡ t) → Stands b (plannedTx plan u .node) u
         go (yes e) =
             rw e
             (record {

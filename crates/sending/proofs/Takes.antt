@@ -1,4 +1,4 @@
--- A take: the oldest frame of a node leaves its queue and its mark is cleared; the other queues stay. Assumes nothing.
+-- A take: the oldest frame of a node leaves its queue and its mark is cleared; the other queues stay.
 use mathlib.Core.Path.{_≡_, refl, sym, ap, _∙_}
 use mathlib.Core.Logic.{_≢_}
 use mathlib.Core.List.{List, _∷_}
@@ -19,7 +19,7 @@ use Rattle.area.proofs.Frame.{same-refl, same-setEnds, same-dequeued}
 use Rattle.area.proofs.Kept.{Kept, kept-dequeued}
 use Rattle.area.proofs.QueueLaws.{ends-dequeued-other, queue-dequeued-other, queue-dequeued, sound-dequeued}
 use Rattle.taking.specs.Taken.{oldestArea, takenArea}
-use Rattle.tables.specs.Reads.{txAt}
+use Rattle.tables.specs.Reads.{plannedTx}
 use Rattle.sending.proofs.Queues.{waiter, Queue, Queues, Stands}
 use Rattle.sending.proofs.Holding.{Holding, holding-kept}
 use Rattle.sending.proofs.Lines.{Line, line-of, line-marked, line-left, queue-of, queue-stays}
@@ -68,7 +68,7 @@ module _ {plan a : List ℕ} (r : Ready plan a) (n : ℕ) (h : n < 16) (some : 0
   marks : (m : ℕ) (l : m < 16) → m ≢ n → (i : ℕ) → i < length (queueOf a m) → byteAt b (waits (waiter a m i)) ≢ 0
   marks m l d i k =
       let x = queues .queue m l in
-      rw (mark-other (waiter a m i) (λ e. d (sym (x .node i k) ∙ ap (λ u. txAt plan u .node) e ∙ line .node 0 (omega arith)))) (x .marked i k)
+      rw (mark-other (waiter a m i) (λ e. d (sym (x .node i k) ∙ ap (λ u. plannedTx plan u .node) e ∙ line .node 0 (omega arith)))) (x .marked i k)
 
   queue : (m : ℕ) → m < 16 → Queue plan b m
   queue m l = go (ℕ-discrete m n)
@@ -89,18 +89,18 @@ module _ {plan a : List ℕ} (r : Ready plan a) (n : ℕ) (h : n < 16) (some : 0
   behind u zero d l e = absurd (d (sym e))
   behind u (suc i) d l e = record { place = i; within = omega arith; there = e }
 
-  stands : (u : ℕ) → u < length (txOf plan) → byteAt b (waits u) ≢ 0 → Stands b (txAt plan u .node) u
-  stands u l m = go (ℕ-discrete (txAt plan u .node) n)
+  stands : (u : ℕ) → u < length (txOf plan) → byteAt b (waits u) ≢ 0 → Stands b (plannedTx plan u .node) u
+  stands u l m = go (ℕ-discrete (plannedTx plan u .node) n)
     where
       d : u ≢ t
       d e = m (ap (λ x. byteAt b (waits x)) e ∙ cleared)
 
-      s : Stands a (txAt plan u .node) u
+      s : Stands a (plannedTx plan u .node) u
       s = queues .stands u l (rw (mark-other u d) at m)
 
-      go : Dec (txAt plan u .node ≡ n) → Stands b (txAt plan u .node) u
+      go : Dec (plannedTx plan u .node ≡ n) → Stands b (plannedTx plan u .node) u
       go (yes e) = rw e (behind u (s .place) d (rw (e, leaves) at (s .within)) (rw (e, leaves) at (s .there)))
-      go (no e) = grows-stands (grows-same (queue-dequeued-other a n h (txAt plan u .node) (holding .fit .node u l) e)) s
+      go (no e) = grows-stands (grows-same (queue-dequeued-other a n h (plannedTx plan u .node) (holding .fit .node u l) e)) s
 
   queues-dequeued : Queues plan (dequeued a n)
   queues-dequeued = record { queue = queue; stands = stands }

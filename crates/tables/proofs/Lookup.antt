@@ -1,4 +1,4 @@
--- The lookup in an area that holds a plan: it finds the plan's Rx frame of a node and an ID, and no other. Assumes nothing.
+-- The lookup in an area that holds a plan: it finds the plan's Rx frame of a node and an ID, and no other.
 use mathlib.Core.Path.{_≡_, sym, _∙_}
 use mathlib.Core.List.{List}
 use Prim.Native.Nat.{ℕ, _+_, _-_, _*_, _<_}
@@ -10,7 +10,8 @@ use Rattle.plan.specs.Rows.{rowsOf}
 use Rattle.facts.specs.Good.{GoodPlan}
 use Rattle.facts.proofs.GoodFacts.{good-facts}
 use Rattle.area.specs.Layout.{row}
-use Rattle.reception.specs.Lookup.{keyAt, firstRow, rowCount, rowsPart, lookedUp}
+use Rattle.area.specs.Layout.{keyAt, firstRow, rowCount}
+use Rattle.reception.specs.Lookup.{rowsPart, lookedUp}
 use Rattle.reception.proofs.LookupLaws.{Rising, found-only, nothing-if, found-exactly}
 use Rattle.tables.specs.Reads.{rowAt, Reads}
 use Rattle.tables.specs.Statements.{Names, Finds, LookupFinds}

@@ -1,4 +1,4 @@
--- The nodes' table in an opened area: a node's rows are exactly the plan's Rx frames of that node. Assumes nothing.
+-- The nodes' table in an opened area: a node's rows are exactly the plan's Rx frames of that node.
 use mathlib.Core.Path.{_≡_, sym, ap, _∙_}
 use mathlib.Core.Logic.{⊎-elim}
 use mathlib.Core.List.{List}
@@ -15,7 +15,7 @@ use Rattle.base.proofs.Picks.{picks, passes, both}
 use Rattle.records.specs.declared.record.RxFrame.{RxFrame}
 use Rattle.plan.specs.Rows.{Row, rowOf, rowsOf}
 use Rattle.facts.specs.Good.{GoodPlan}
-use Rattle.area.specs.Layout.{node}
+use Rattle.area.specs.Layout.{rxCountBytes, headerEnd, queuesStart, LongEnough, node}
 use Rattle.area.proofs.Frame.{Same, same-refl, same-then, same-two, same-setTwo}
 use Rattle.opening.specs.Opened.{nextRx, withRxTimer, withRow, withNodeRow, withRx, opened}
 use Rattle.opening.proofs.BlankLaws.{two-set}
@@ -32,7 +32,7 @@ first a n = twoAt a (node n)
 abbrev count : List ℕ → ℕ → ℕ
 count a n = twoAt a (node n + 2)
 
-module _ (n r : ℕ) (a : List ℕ) (h : n < 16) (l : 32768 ≤ length a) where
+module _ (n r : ℕ) (a : List ℕ) (h : n < 16) (l : LongEnough a) where
   -- the area before the count is stored
   abbrev begun : List ℕ
   begun = pick (eqb (count a n) 0) (setTwo a (node n) r) a
@@ -40,7 +40,7 @@ module _ (n r : ℕ) (a : List ℕ) (h : n < 16) (l : 32768 ≤ length a) where
   more-count : count a n < 65535 → count (withNodeRow n r a) n ≡ count a n + 1
   unfolding withNodeRow
   more-count m =
-      let long : 32768 ≤ length begun = both (λ (b : List ℕ). 32768 ≤ length b) (eqb (count a n) 0) _ _ (simp length-set l) l in
+      let long : LongEnough begun = both (λ (b : List ℕ). LongEnough b) (eqb (count a n) 0) _ _ (simp length-set l) l in
       two-set begun (node n + 2) (count a n + 1) (omega arith) (omega arith)
 
   first-begun : first (withNodeRow n r a) n ≡ first begun n
@@ -66,7 +66,7 @@ module _ {P : ℕ → Type 0} {a b : List ℕ} (s : Same P a b) (n : ℕ) (p : (
 -- ---- one Rx frame more
 
 abbrev InNodes : ℕ → Type 0
-InNodes j = (12 ≤ j) × (j < 80)
+InNodes j = (headerEnd ≤ j) × (j < queuesStart)
 
 module _ (at : ℕ) (x : RxFrame) (a : List ℕ) where
   -- the area before its node's row is stored
@@ -79,19 +79,19 @@ module _ (at : ℕ) (x : RxFrame) (a : List ℕ) where
       (leaves-rx-timer _ x a (omega arith) (omega arith) (omega arith))
       (leaves-row _ at x _ (omega arith))
 
-  module _ (n : ℕ) (is : x .node % 16 ≡ n) (l : 32768 ≤ length a) where
+  module _ (n : ℕ) (is : x .node % 16 ≡ n) (l : LongEnough a) where
     abbrev before-first : first rowed n ≡ first a n
     before-first = same-first same-rowed n (omega arith)
 
     abbrev before-count : count rowed n ≡ count a n
     before-count = same-count same-rowed n (omega arith)
 
-    long : 32768 ≤ length rowed
+    long : LongEnough rowed
     long = omega (arith, same-rowed .len)
 
     after-node : Same InNodes (withNodeRow n (nextRx a) rowed) (withRx at x a)
     unfolding withRx
-    after-node = rw is (same-setTwo 10 (nextRx a + 1) (omega arith) (omega arith) (same-refl (withNodeRow n (nextRx a) rowed)))
+    after-node = rw is (same-setTwo rxCountBytes (nextRx a + 1) (omega arith) (omega arith) (same-refl (withNodeRow n (nextRx a) rowed)))
 
     own-count : count a n < 65535 → count (withRx at x a) n ≡ count a n + 1
     own-count m =
@@ -151,7 +151,7 @@ module _ (plan : List ℕ) (good : GoodPlan plan) where
           rw (own-kept at x a n is (m .size) some, own-count at x a n is (m .size) most) (among-next plan n k _ _ p good (m .exists) here some))
           (eq-or-lt-of-le zero-le)
 
-  pub opened-among : (a : List ℕ) → 32768 ≤ length a → (n : ℕ) → n < 16
+  pub opened-among : (a : List ℕ) → LongEnough a → (n : ℕ) → n < 16
       → Among plan n (length (rowsOf plan)) (twoAt (opened plan a) (node n)) (twoAt (opened plan a) (node n + 2))
   opened-among a room =
       opened-walk plan (good .counts .rx) (AllAmong plan)

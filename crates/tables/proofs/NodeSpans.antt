@@ -1,4 +1,4 @@
--- The rows of a node among the first rows of a good plan: they follow each other, and one row more keeps that. Assumes nothing.
+-- The rows of a node among the first rows of a good plan: they follow each other, and one row more keeps that.
 use mathlib.Core.Path.{_≡_}
 use mathlib.Core.Logic.{⊎-elim}
 use mathlib.Core.List.{List}

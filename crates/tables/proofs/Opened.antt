@@ -1,4 +1,4 @@
--- An opened area reads as its plan says, and begins as document 01 says: the Tx and the Rx side together. Assumes nothing.
+-- An opened area reads as its plan says, and begins as document 01 says: the Tx and the Rx side together.
 use Rattle.opening.proofs.OpenedLaws.{opened-counter}
 use Rattle.tables.specs.Statements.{OpenedReads}
 use Rattle.tables.proofs.TxOpened.{opened-header, opened-tx, opened-rings, opened-payload, opened-tx-timer, opened-waits, opened-empty}

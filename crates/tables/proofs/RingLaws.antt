@@ -1,4 +1,4 @@
--- The rings of an opened area: each node's has room for its Tx frames and one more, and begins where the one before it ends. Assumes nothing.
+-- The rings of an opened area: each node's has room for its Tx frames and one more, and begins where the one before it ends.
 use mathlib.Core.Path.{_≡_, refl, ap, _∙_}
 use mathlib.Core.Logic.{_≢_, _⊎_, inl, inr, ⊎-elim}
 use mathlib.Core.Bool.{true}
@@ -14,12 +14,14 @@ use Rattle.base.specs.Numbers.{twoAt, setTwo}
 use Rattle.base.proofs.Picks.{by-eqb}
 use Rattle.records.specs.declared.record.TxFrame.{TxFrame}
 use Rattle.records.specs.declared.record.Record.{Record}
+use Rattle.records.specs.Kinds.{formOf, lengthOf, kindOf}
 use Rattle.records.specs.Records.{sizeOf}
 use Rattle.plan.specs.Tests.{inRange}
 use Rattle.plan.specs.Rows.{txFrames}
 use Rattle.plan.proofs.TestLaws.{tx-ranges}
 use Rattle.facts.specs.Good.{Each}
-use Rattle.area.specs.Layout.{queue, txPlace}
+use Rattle.area.specs.Layout.{txCountBytes, LongEnough, queue, txPlace}
+use Rattle.area.specs.Queue.{endsOf}
 use Rattle.area.proofs.Frame.{Same, same-refl, same-setTwo, same-two}
 use Rattle.opening.specs.Opened.{nextTx, withTxTimer, withPayload, withFrame, withTx, withRecord, withRecords, ringsBefore, withRings}
 use Rattle.opening.proofs.BlankLaws.{two-set}
@@ -34,7 +36,7 @@ abbrev pub Room : ℕ → ℕ → Type 0
 Room n j = (queue n + 2 ≤ j) × (j < queue n + 4)
 
 module _ (n : ℕ) (h : n < 16) where
-  one-more : (at : ℕ) (x : TxFrame) (a : List ℕ) → 32768 ≤ length a → twoAt a (queue n + 2) + 1 < 65536 → x .node % 16 ≡ n
+  one-more : (at : ℕ) (x : TxFrame) (a : List ℕ) → LongEnough a → twoAt a (queue n + 2) + 1 < 65536 → x .node % 16 ≡ n
       → twoAt (withTx at x a) (queue n + 2) ≡ twoAt a (queue n + 2) + 1
   unfolding withTx withFrame
   one-more at x a long most is =
@@ -42,7 +44,7 @@ module _ (n : ℕ) (h : n < 16) where
       let s : Same (Room n) a c = same-own (nextTx a) at x a (omega arith) in
       let e = same-two s (queue n + 2) (omega arith) (omega arith) in
       rw is
-      (same-two (same-setTwo {P = Room n} 8 _ (omega arith) (omega arith) (same-refl (withFrame n c))) (queue n + 2) (omega arith) (omega arith)
+      (same-two (same-setTwo {P = Room n} txCountBytes _ (omega arith) (omega arith) (same-refl (withFrame n c))) (queue n + 2) (omega arith) (omega arith)
       ∙ two-set c (queue n + 2) (twoAt c (queue n + 2) + 1) (omega arith) (omega arith) ∙ omega arith)
 
   no-more : (at : ℕ) (x : TxFrame) (a : List ℕ) → (x .node % 16 ≡ n → ⊥) → twoAt (withTx at x a) (queue n + 2) ≡ twoAt a (queue n + 2)
@@ -50,7 +52,7 @@ module _ (n : ℕ) (h : n < 16) where
       let s : Same (Room n) a (withTx at x a) = same-tx at x a (omega arith) (omega arith) (omega arith) in
       same-two s (queue n + 2) (omega arith) (omega arith)
 
-  room-tx : (at : ℕ) (x : TxFrame) (a : List ℕ) → 32768 ≤ length a → x .node < 16 → twoAt a (queue n + 2) + 1 < 65536
+  room-tx : (at : ℕ) (x : TxFrame) (a : List ℕ) → LongEnough a → x .node < 16 → twoAt a (queue n + 2) + 1 < 65536
       → twoAt (withTx at x a) (queue n + 2) ≡ twoAt a (queue n + 2) + pick (eqb (x .node) n) 1 0
   room-tx at x a long node most =
       by-eqb (λ (v : ℕ). twoAt (withTx at x a) (queue n + 2) ≡ twoAt a (queue n + 2) + v) (x .node) n 1 0
@@ -59,11 +61,11 @@ module _ (n : ℕ) (h : n < 16) where
   module _ (m : ℕ) (few : m ≤ 16) where
     abbrev RoomBy : ℕ → List Record → List ℕ → Type 0
     RoomBy at rs a =
-        Each (λ r. inRange m r ≡ true) rs → 32768 ≤ length a → twoAt a (queue n + 2) + framesOn n (txFrames rs) < 65535
+        Each (λ r. inRange m r ≡ true) rs → LongEnough a → twoAt a (queue n + 2) + framesOn n (txFrames rs) < 65535
         → twoAt (withRecords at rs a) (queue n + 2) ≡ twoAt a (queue n + 2) + framesOn n (txFrames rs)
 
     pub room-records : (at : ℕ) (rs : List Record) (a : List ℕ) → RoomBy at rs a
-    unfolding withRecords withRecord sizeOf txFrames framesOn Each inRange
+    unfolding withRecords withRecord formOf lengthOf kindOf sizeOf pick txFrames framesOn Each inRange
     room-records =
         along RoomBy (λ at a each long most. omega arith)
         (λ at x rs a rest each long most.
@@ -110,8 +112,8 @@ before-le n (x ∷ xs) = omega (arith, before-more n x xs, before-one n x .0, be
 -- ---- the starts
 
 -- a later ring begins where this one has ended
-rings-after : (b : List ℕ) (m n : ℕ) → m < n → ringsBefore b m + (twoAt b (queue m + 2) % 512 + 1) ≤ ringsBefore b n
-unfolding ringsBefore
+rings-after : (b : List ℕ) (m n : ℕ) → m < n → ringsBefore b m + endsOf b m .room ≤ ringsBefore b n
+unfolding ringsBefore endsOf
 rings-after b m zero h = absurd (omega arith)
 rings-after b m (suc n) h =
     ⊎-elim (λ (e : m ≡ n). rw e (omega arith)) (λ (l : m < n). omega (arith, rings-after b m n l)) (eq-or-lt-of-le (omega arith))
@@ -128,13 +130,14 @@ module _ (xs : List TxFrame) (most : length xs ≤ 256) (b : List ℕ) (frames :
   rings-before zero h = omega arith
   rings-before (suc n) h = omega (arith, rings-before n (omega arith), frames n (omega arith), frames-le n xs)
 
-  pub ring-start : 32768 ≤ length b → (n : ℕ) → n < 16 → twoAt (withRings 16 b) (queue n) ≡ ringsBefore b n
+  pub ring-start : LongEnough b → (n : ℕ) → n < 16 → twoAt (withRings 16 b) (queue n) ≡ ringsBefore b n
   unfolding withRings
   ring-start long n h =
       rows-at (λ k. withRings k b) queue (ringsBefore b) (λ k. refl) (omega arith) 16
       (λ k l. (omega arith, omega (arith, rings-before k (omega arith), before-le k xs))) 16 (omega arith) n h
 
-  pub ring-room : (n : ℕ) → n < 16 → twoAt (withRings 16 b) (queue n + 2) % 512 ≡ framesOn n xs
+  pub ring-room : (n : ℕ) → n < 16 → endsOf (withRings 16 b) n .room ≡ framesOn n xs + 1
+  unfolding endsOf
   ring-room n h =
       let s : Same (Room n) b (withRings 16 b) = same-rings 16 b (omega arith) in
       let e = same-two s (queue n + 2) (omega arith) (omega arith) ∙ frames n h in
@@ -145,6 +148,7 @@ module _ (xs : List TxFrame) (most : length xs ≤ 256) (b : List ℕ) (frames :
   ring-within n h = omega (arith, rings-before n (omega arith), before-le (suc n) xs)
 
   ring-after : (m n : ℕ) → m < n → n < 16 → ringsBefore b m + (framesOn m xs + 1) ≤ ringsBefore b n
+  unfolding endsOf
   ring-after m n l h = omega (arith, rings-after b m n l, frames m (omega arith), frames-le m xs)
 
   pub ring-apart :

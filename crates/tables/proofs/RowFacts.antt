@@ -1,4 +1,4 @@
--- The rows of a good plan by their numbers: their frames are in range, their nodes rise, and of one node their IDs. Assumes nothing.
+-- The rows of a good plan by their numbers: their frames are in range, their nodes rise, and of one node their IDs.
 use mathlib.Core.Path.{_≡_}
 use mathlib.Core.Bool.{true}
 use mathlib.Core.List.{List, [], _∷_}

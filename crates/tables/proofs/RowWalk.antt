@@ -1,4 +1,4 @@
--- An induction over an opening's Rx frames: what each of them adds to, and no other record changes, holds of the opened area. Assumes nothing.
+-- An induction over an opening's Rx frames: what each of them adds to, and no other record changes, holds of the opened area.
 use mathlib.Core.Path.{_≡_, refl, sym, ap, _∙_}
 use mathlib.Core.Logic.{dite}
 use mathlib.Core.List.{List, [], _∷_}
@@ -12,10 +12,13 @@ use Rattle.base.specs.Numbers.{byteAt, twoAt}
 use Rattle.records.specs.declared.record.RxFrame.{RxFrame}
 use Rattle.records.specs.declared.record.Record.{Record}
 use Rattle.records.specs.declared.record.Record.the-variants.{Rx}
+use Rattle.base.specs.Pick.{pick}
+use Rattle.records.specs.Kinds.{rxBytes, formOf, lengthOf, kindOf}
 use Rattle.records.specs.Records.{recordAt, sizeOf, recordsAt, records}
 use Rattle.records.proofs.RecordLaws.{records-end, records-step}
 use Rattle.plan.specs.Check.{setsOf}
 use Rattle.plan.specs.Rows.{rowOf, rowsFrom, rowsOf, noRow}
+use Rattle.area.specs.Layout.{nodeCountByte, rxCountBytes, planStart, LongEnough}
 use Rattle.area.proofs.Frame.{Same, same-two}
 use Rattle.opening.specs.Opened.{blank, nextRx, withRx, withRecord, withRecords, opened}
 use Rattle.opening.proofs.BlankLaws.{blank-length, blank-zero}
@@ -28,17 +31,17 @@ pub record Meets (plan : List ℕ) (k at : ℕ) (x : RxFrame) (a : List ℕ) : T
   pub here : at < length plan
   pub reads : recordAt plan at ≡ Rx x
   pub exists : k < length (rowsOf plan)
-  pub row : rowAt plan k ≡ rowOf k x (recordsAt plan (at + 11))
+  pub row : rowAt plan k ≡ rowOf k x (recordsAt plan (at + rxBytes))
   pub next : nextRx a ≡ k
-  pub size : 32768 ≤ length a
+  pub size : LongEnough a
 
 -- the records from a place on are left, of which the first Rx frame has number k
 record Left (plan : List ℕ) (rs : List Record) (at k : ℕ) (a : List ℕ) : Type 0 where
   reads : recordsAt plan at ≡ rs
   rows : rowsFrom k rs ≡ drop k (rowsOf plan)
   most : k ≤ length (rowsOf plan)
-  count : twoAt a 10 ≡ k
-  size : 32768 ≤ length a
+  count : twoAt a rxCountBytes ≡ k
+  size : LongEnough a
 
 -- the record at a place is the first of those from there on
 module _ (plan : List ℕ) (at : ℕ) (r : Record) (rs : List Record) (is : recordsAt plan at ≡ r ∷ rs) where
@@ -65,7 +68,7 @@ module _ (plan : List ℕ) (rs : List Record) (at k : ℕ) (a : List ℕ) where
         reads = rest plan at r rs (l .reads);
         rows = sym none ∙ l .rows;
         most = l .most;
-        count = same-two s 10 (omega arith) (omega arith) ∙ l .count;
+        count = same-two s rxCountBytes (omega arith) (omega arith) ∙ l .count;
         size = omega (arith, s .len, l .size);
       }
 
@@ -79,7 +82,7 @@ module _ (plan : List ℕ) (rs : List Record) (at k : ℕ) (a : List ℕ) where
     here-rows = l .rows ∙ drop-cons (rowsOf plan) k noRow more-rows
 
     meets : Meets plan k at x a
-    unfolding sizeOf
+    unfolding formOf lengthOf kindOf sizeOf pick
     meets =
         let e = here-rows in
         record {
@@ -91,8 +94,8 @@ module _ (plan : List ℕ) (rs : List Record) (at k : ℕ) (a : List ℕ) where
           size = l .size;
         }
 
-    left-frame : Left plan rs (at + 11) (suc k) (withRx at x a)
-    unfolding sizeOf withRecords withRecord rowsFrom
+    left-frame : Left plan rs (at + rxBytes) (suc k) (withRx at x a)
+    unfolding formOf lengthOf kindOf sizeOf pick withRecords withRecord rowsFrom
     left-frame =
         let e = here-rows in
         let c = counts at (Rx x ∷ []) a (omega (arith, l .size)) .rx 0 (omega (arith, l .count, more-rows)) in
@@ -105,9 +108,9 @@ module _ (plan : List ℕ) (rs : List Record) (at k : ℕ) (a : List ℕ) where
         }
 
 -- the counts and the tables of a blank area
-pub blank-two : (plan a : List ℕ) → 32768 ≤ length a → (j : ℕ) → 6 ≤ j → j < 8959 → twoAt (blank plan a) j ≡ 0
+pub blank-two : (plan a : List ℕ) → LongEnough a → (j : ℕ) → nodeCountByte ≤ j → j + 1 < planStart → twoAt (blank plan a) j ≡ 0
 blank-two plan a room j l h =
-    let byte : (i : ℕ) → 6 ≤ i → i < 8960 → byteAt (blank plan a) i ≡ 0 =
+    let byte : (i : ℕ) → nodeCountByte ≤ i → i < planStart → byteAt (blank plan a) i ≡ 0 =
     λ i lo hi. blank-zero plan a room i hi (omega arith) (omega arith) (omega arith) (omega arith) in
     omega (arith, byte j l (omega arith), byte (j + 1) (omega arith) (omega arith))
 
@@ -127,7 +130,7 @@ module _
     step :
         (r : Record) (rs : List Record) (at k : ℕ) (a : List ℕ) → Left plan (r ∷ rs) at k a → Q k a → Kind at r
         → After plan Q rs (at + sizeOf r) (withRecord at r a)
-    unfolding withRecord sizeOf
+    unfolding withRecord formOf lengthOf kindOf sizeOf pick
     step r rs at k a l q (frame x e) =
         let m : Left plan (Rx x ∷ rs) at k a = rw e at l in
         rw e (record { number = suc k; left = left-frame plan rs at k a x few m; holds = more k at x a (meets plan rs at k a x few m) q })
@@ -139,7 +142,7 @@ module _
     walk [] at k a l q = let e : k ≡ length (rowsOf plan) = omega (arith, length-drop k (rowsOf plan), ap length (l .rows), l .most) in rw e at q
     walk (r ∷ rs) at k a l q = let s = step r rs at k a l q (kind at r) in walk rs _ (s .number) _ (s .left) (s .holds)
 
-    pub opened-walk : (a : List ℕ) → 32768 ≤ length a → Q 0 (blank plan a) → Q (length (rowsOf plan)) (opened plan a)
+    pub opened-walk : (a : List ℕ) → LongEnough a → Q 0 (blank plan a) → Q (length (rowsOf plan)) (opened plan a)
     unfolding opened rowsOf records
     opened-walk a room q =
         let l : Left plan (recordsAt plan 0) 0 0 (blank plan a) =
@@ -147,7 +150,7 @@ module _
           reads = refl;
           rows = refl;
           most = omega arith;
-          count = blank-two plan a room 10 (omega arith) (omega arith);
+          count = blank-two plan a room rxCountBytes (omega arith) (omega arith);
           size = omega (arith, blank-length plan a);
         } in
         kept _ _ _ (omega arith) (leaves-last (setsOf plan) _) (walk (recordsAt plan 0) 0 0 (blank plan a) l q)

@@ -1,7 +1,7 @@
--- Of an opened area: what the tables say of each Rx frame and of each node is what the plan says. Assumes nothing.
+-- Of an opened area: what the tables say of each Rx frame and of each node is what the plan says.
 use mathlib.Core.Path.{_≡_}
 use mathlib.Core.List.{List}
-use Prim.Native.Nat.{ℕ, _+_, _<_, _≤_}
+use Prim.Native.Nat.{ℕ, _+_, _<_}
 use native.Mathlib.Omega.{arith}
 use lib.ListN.{length}
 use Rattle.base.specs.Numbers.{byteAt, twoAt}
@@ -10,11 +10,12 @@ use Rattle.plan.specs.Check.{checkPlan}
 use Rattle.plan.specs.Rows.{rowOf, rowsOf}
 use Rattle.facts.specs.Good.{GoodPlan}
 use Rattle.facts.proofs.GoodFacts.{good-facts}
-use Rattle.area.specs.Layout.{node, rxTimer, long, row, planOf, asRx, rxFrame, claims}
+use Rattle.records.specs.Views.{asRx}
+use Rattle.area.specs.Layout.{LongEnough, node, rxTimer, long, row, planOf, rxFrame, claims}
 use Rattle.opening.specs.Opened.{opened}
 use Rattle.opening.proofs.Answers.{good-short}
 use Rattle.opening.proofs.OpenedLaws.{opened-plan}
-use Rattle.reception.specs.Lookup.{firstRow, rowCount}
+use Rattle.area.specs.Layout.{firstRow, rowCount}
 use Rattle.tables.specs.Reads.{rowAt, RxTable, NodeTable}
 use Rattle.tables.proofs.RxRecords.{Stands, opened-stands}
 use Rattle.tables.proofs.NodeRows.{opened-among}
@@ -41,7 +42,7 @@ module _ (plan a : List ℕ) (r : ℕ) (holds : planOf a ≡ plan) (s : Stands p
         mask = rw (s .row) (p .mask);
       }
 
-module _ (plan a : List ℕ) (n t r : ℕ) (good : checkPlan plan ≡ Good n t r) (room : 32768 ≤ length a) where
+module _ (plan a : List ℕ) (n t r : ℕ) (good : checkPlan plan ≡ Good n t r) (room : LongEnough a) where
   facts : GoodPlan plan
   facts = good-facts plan n t r good .0
 

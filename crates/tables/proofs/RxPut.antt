@@ -1,4 +1,4 @@
--- What an Rx record puts into the area for its frame: its timer, its mask, its long counter and its row. Assumes nothing.
+-- What an Rx record puts into the area for its frame: its timer, its mask, its long counter and its row.
 use mathlib.Core.Path.{_≡_, _∙_}
 use mathlib.Core.List.{List}
 use Prim.Native.Nat.{ℕ, _+_, _/_, _%_, _<_, _≤_}
@@ -8,7 +8,7 @@ use lib.Seq.{getD-set-same, getD-set-other}
 use Rattle.base.specs.Numbers.{byteAt, twoAt, setTwo}
 use Rattle.clock.specs.Counter.{maskOf}
 use Rattle.records.specs.declared.record.RxFrame.{RxFrame}
-use Rattle.area.specs.Layout.{rxTimer, long, row, rxMask}
+use Rattle.area.specs.Layout.{queuesStart, rxTimersStart, rowsStart, rxMasksStart, LongEnough, rxTimer, long, row, rxMask}
 use Rattle.area.proofs.Frame.{Same, same-refl, same-then, same-two, same-setTwo}
 use Rattle.opening.specs.Opened.{nextRx, withRxTimer, withRow, withRx}
 use Rattle.opening.proofs.BlankLaws.{two-set}
@@ -34,7 +34,7 @@ here a i v h = record { is = getD-set-same a i v 0 h }
 past : {a : List ℕ} {j w : ℕ} (i v : ℕ) → (j ≡ i → ⊥) → Byte a j w → Byte (set a i v) j w
 past {a} {j} i v d b = record { is = getD-set-other a i j v 0 d ∙ b .is }
 
-module _ (r : ℕ) (x : RxFrame) (a : List ℕ) (h : r < 256) (l : 32768 ≤ length a) where
+module _ (r : ℕ) (x : RxFrame) (a : List ℕ) (h : r < 256) (l : LongEnough a) where
   -- the area before each further store
   abbrev one : List ℕ
   one = set a (rxTimer r) (x .reload)
@@ -45,7 +45,7 @@ module _ (r : ℕ) (x : RxFrame) (a : List ℕ) (h : r < 256) (l : 32768 ≤ len
   abbrev three : List ℕ
   three = set two (rxMask r) (maskOf (x .prescaler))
 
-  timer-size : 32768 ≤ length (withRxTimer r x a)
+  timer-size : LongEnough (withRxTimer r x a)
   unfolding withRxTimer
   timer-size = simp length-set l
 
@@ -92,20 +92,20 @@ module _ (r : ℕ) (x : RxFrame) (a : List ℕ) (h : r < 256) (l : 32768 ≤ len
 
 -- after the row come the node and the count
 after-row :
-    {P : ℕ → Type 0} (at : ℕ) (x : RxFrame) (a : List ℕ) → Clear P 0 80
+    {P : ℕ → Type 0} (at : ℕ) (x : RxFrame) (a : List ℕ) → Clear P 0 queuesStart
     → Same P (withRow (nextRx a) at x (withRxTimer (nextRx a) x a)) (withRx at x a)
 unfolding withRx
 after-row at x a low = put-two low _ _ (omega arith) (omega arith) (leaves-node-row _ _ _ (λ j l h. low j (omega arith) (omega arith)))
 
-pub put-one : (at : ℕ) (x : RxFrame) (a : List ℕ) → 32768 ≤ length a → x .id < 2048 → at < 65536 → Put (withRx at x a) (nextRx a) at x
+pub put-one : (at : ℕ) (x : RxFrame) (a : List ℕ) → LongEnough a → x .id < 2048 → at < 65536 → Put (withRx at x a) (nextRx a) at x
 put-one at x a l small here′ =
     let r = nextRx a in
     let h : r < 256 = omega arith in
     let t = withRxTimer r x a in
-    let m : 32768 ≤ length t = timer-size r x a h l in
-    let s : Same (λ j. (720 ≤ j) × (3024 ≤ j → 8688 ≤ j)) t (withRx at x a) =
+    let m : LongEnough t = timer-size r x a h l in
+    let s : Same (λ j. (rxTimersStart ≤ j) × (rowsStart ≤ j → rxMasksStart ≤ j)) t (withRx at x a) =
     same-then (leaves-row r at x t (λ j lo hi p. omega (arith, p .1 (omega arith)))) (after-row at x a (omega arith)) in
-    let w : Same (λ j. 3024 ≤ j) (withRow r at x t) (withRx at x a) = after-row at x a (omega arith) in
+    let w : Same (λ j. rowsStart ≤ j) (withRow r at x t) (withRx at x a) = after-row at x a (omega arith) in
     record {
       reload = s .at (rxTimer r) (omega arith) ∙ timer-reload r x a h l .is;
       initial = s .at (rxTimer r + 1) (omega arith) ∙ timer-initial r x a h l .is;

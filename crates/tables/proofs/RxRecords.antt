@@ -1,16 +1,18 @@
--- What stands in an opened area for each Rx frame: what its record put there, which no later record writes over. Assumes nothing.
+-- What stands in an opened area for each Rx frame: what its record put there, which no later record writes over.
 use mathlib.Core.Path.{_≡_, _∙_}
 use mathlib.Core.Logic.{⊎-elim}
 use mathlib.Core.List.{List}
-use Prim.Native.Nat.{ℕ, suc, _+_, _*_, _%_, _<_, _≤_}
+use Prim.Native.Nat.{ℕ, suc, _+_, _%_, _<_, _≤_}
 use native.Mathlib.Nat.{eq-or-lt-of-le}
 use native.Mathlib.Omega.{arith}
 use lib.ListN.{length}
 use Rattle.records.specs.declared.record.RxFrame.{RxFrame}
 use Rattle.records.specs.declared.record.Record.the-variants.{Rx}
+use Rattle.records.specs.Kinds.{rxBytes}
 use Rattle.records.specs.Records.{recordAt, recordsAt}
 use Rattle.plan.specs.Rows.{rowOf, rowsOf}
 use Rattle.facts.specs.Good.{GoodPlan}
+use Rattle.area.specs.Layout.{rxTimersStart, longStart, waitsStart, fullStart, rowsStart, rowsEnd, payloadsStart, rxMasksStart, LongEnough}
 use Rattle.area.specs.Layout.{rxTimer, long, row, rxMask}
 use Rattle.area.proofs.Frame.{Same, same-fewer, same-two}
 use Rattle.opening.specs.Opened.{withRx, opened}
@@ -23,13 +25,13 @@ use Rattle.tables.proofs.RxPut.{Put, put-one}
 -- ---- the places of the Rx frames below k, which no later record writes
 
 record Below (k j : ℕ) : Type 0 where
-  tables : 720 ≤ j
-  timer : j < 1232 → j < 720 + 2 * k
-  long : 1232 ≤ j → j < 1488 → j < 1232 + k
-  middle : 2000 ≤ j → 3024 ≤ j
-  row : 3024 ≤ j → j < 4560 → j < 3024 + 6 * k
-  high : 6384 ≤ j → 8688 ≤ j
-  mask : 8688 ≤ j → j < 8688 + k
+  tables : rxTimersStart ≤ j
+  timer : j < longStart → j < rxTimer k
+  long : longStart ≤ j → j < waitsStart → j < long k
+  middle : fullStart ≤ j → rowsStart ≤ j
+  row : rowsStart ≤ j → j < rowsEnd → j < row k
+  high : payloadsStart ≤ j → rxMasksStart ≤ j
+  mask : rxMasksStart ≤ j → j < rxMask k
 
 below-side : (k j : ℕ) → Below k j → RxSide j
 below-side k j p = record { header = omega (arith, p .tables); low = λ m. p .tables; middle = p .middle; high = p .high }
@@ -64,7 +66,7 @@ pub record Stands (plan a : List ℕ) (r : ℕ) : Type 0 where
   pub at : ℕ
   pub frame : RxFrame
   pub reads : recordAt plan at ≡ Rx frame
-  pub row : rowAt plan r ≡ rowOf r frame (recordsAt plan (at + 11))
+  pub row : rowAt plan r ≡ rowOf r frame (recordsAt plan (at + rxBytes))
   pub put : Put a r at frame
 
 abbrev AllStand : List ℕ → ℕ → List ℕ → Type 0
@@ -95,7 +97,7 @@ module _ (plan : List ℕ) (good : GoodPlan plan) (short : length plan ≤ 65536
       stand-kept plan k a (withRx at x a) (omega arith) (leaves-rx at x a (rw (m .next) (below-clear k (x .node % 16) most (omega arith)))) all r b)
       (eq-or-lt-of-le (omega arith))
 
-  pub opened-stands : (a : List ℕ) → 32768 ≤ length a → (r : ℕ) → r < length (rowsOf plan) → Stands plan (opened plan a) r
+  pub opened-stands : (a : List ℕ) → LongEnough a → (r : ℕ) → r < length (rowsOf plan) → Stands plan (opened plan a) r
   opened-stands a room =
       opened-walk plan (good .counts .rx) (AllStand plan)
       (λ k b c h s. stand-kept plan k b c (omega (arith, good .counts .rx)) (same-fewer (below-side k) s))

@@ -1,4 +1,4 @@
--- What the parts of an opening leave, over any P that names no place that they write; and the places that only Rx frames write. Assumes nothing.
+-- What the parts of an opening leave, over any P that names no place that they write; and the places that only Rx frames write.
 use mathlib.Core.Path.{_≡_, refl}
 use mathlib.Core.List.{List, _∷_}
 use Prim.Native.Nat.{ℕ, zero, suc, _+_, _%_, _<_, _≤_}
@@ -9,8 +9,9 @@ use Rattle.records.specs.declared.record.Eight.{Eight}
 use Rattle.records.specs.declared.record.TxFrame.{TxFrame}
 use Rattle.records.specs.declared.record.RxFrame.{RxFrame}
 use Rattle.records.specs.declared.record.Record.{Record}
-use Rattle.records.specs.declared.record.Record.the-variants.{Head, Node, Tx, Rx, Signal, Destination, BadKind, Cut, End}
+use Rattle.records.specs.declared.record.Record.the-variants.{Head, Node, Tx, Rx, Signal, Destination, Broken}
 use Rattle.plan.specs.Rows.{rowsFrom}
+use Rattle.area.specs.Layout.{headerEnd, rxCountBytes, queuesStart, rxTimersStart, fullStart, rowsStart, payloadsStart, rxMasksStart}
 use Rattle.area.specs.Layout.{node, rxTimer, long, row, payload, rxMask}
 use Rattle.area.proofs.Frame.{Same, same-refl, same-then, same-set, same-setTwo, same-pick}
 use Rattle.opening.specs.Opened.{withTxTimer, withPayload, withFrame, withTx, withRecord, withRings, withFullness}
@@ -51,7 +52,7 @@ module _ {P : ℕ → Type 0} where
 
 -- P names no place that Rx frame r of node n writes
 pub record RxClear (P : ℕ → Type 0) (r n : ℕ) : Type 0 where
-  pub count : Clear P 10 12
+  pub count : Clear P rxCountBytes headerEnd
   pub node : Clear P (node n) (node n + 4)
   pub timer : Clear P (rxTimer r) (rxTimer r + 2)
   pub long : Clear P (long r) (long r + 1)
@@ -71,21 +72,21 @@ rx-length at x a = leaves-rx {P = λ j. ⊥} at x a (omega arith) .len
 -- ---- the places that only Rx frames write, by what they are not: header, queues and Tx timers, fullness and Tx places, payloads and Tx masks
 
 pub record RxSide (j : ℕ) : Type 0 where
-  pub header : 10 ≤ j
-  pub low : 80 ≤ j → 720 ≤ j
-  pub middle : 2000 ≤ j → 3024 ≤ j
-  pub high : 6384 ≤ j → 8688 ≤ j
+  pub header : rxCountBytes ≤ j
+  pub low : queuesStart ≤ j → rxTimersStart ≤ j
+  pub middle : fullStart ≤ j → rowsStart ≤ j
+  pub high : payloadsStart ≤ j → rxMasksStart ≤ j
 
-header-clear : Clear RxSide 0 10
+header-clear : Clear RxSide 0 rxCountBytes
 header-clear j l h p = omega (arith, p .header)
 
-low-clear : Clear RxSide 80 720
+low-clear : Clear RxSide queuesStart rxTimersStart
 low-clear j l h p = omega (arith, p .low l)
 
-middle-clear : Clear RxSide 2000 3024
+middle-clear : Clear RxSide fullStart rowsStart
 middle-clear j l h p = omega (arith, p .middle l)
 
-high-clear : Clear RxSide 6384 8688
+high-clear : Clear RxSide payloadsStart rxMasksStart
 high-clear j l h p = omega (arith, p .high l)
 
 leaves-tx-timer : (t : ℕ) (x : TxFrame) (a : List ℕ) → t < 256 → Same RxSide a (withTxTimer t x a)
@@ -134,10 +135,8 @@ pub kind : (at : ℕ) (r : Record) → Kind at r
 unfolding rowsFrom withRecord
 kind at (Rx x) = frame x refl
 kind at (Head order) = other (λ n rs. refl) (λ a. put header-clear 3 order (omega arith) (omega arith) (same-refl a))
-kind at (Node type) = other (λ n rs. refl) (λ a. put header-clear 6 _ (omega arith) (omega arith) (same-refl a))
+kind at (Node body) = other (λ n rs. refl) (λ a. put header-clear 6 _ (omega arith) (omega arith) (same-refl a))
 kind at (Tx x) = other (λ n rs. refl) (leaves-tx at x)
-kind at (Signal p s) = other (λ n rs. refl) same-refl
-kind at (Destination t q) = other (λ n rs. refl) same-refl
-kind at BadKind = other (λ n rs. refl) same-refl
-kind at (Cut k) = other (λ n rs. refl) same-refl
-kind at End = other (λ n rs. refl) same-refl
+kind at (Signal body) = other (λ n rs. refl) same-refl
+kind at (Destination body) = other (λ n rs. refl) same-refl
+kind at (Broken fault) = other (λ n rs. refl) same-refl

@@ -1,4 +1,4 @@
--- What the parts of an opening leave, over any set P of places that a part does not write; finer than `opening` has it. Assumes nothing.
+-- What the parts of an opening leave, over any set P of places that a part does not write; finer than `opening` has it.
 use mathlib.Core.Path.{_≡_, refl}
 use mathlib.Core.List.{List, [], _∷_}
 use Prim.Native.Nat.{ℕ, zero, suc, _+_, _%_, _<_, _≤_}
@@ -11,12 +11,17 @@ use Rattle.records.specs.declared.record.Eight.{Eight}
 use Rattle.records.specs.declared.record.TxFrame.{TxFrame}
 use Rattle.records.specs.declared.record.RxFrame.{RxFrame}
 use Rattle.records.specs.declared.record.Record.{Record}
-use Rattle.records.specs.declared.record.Record.the-variants.{Head, Node, Tx, Rx, Signal, Destination, BadKind, Cut, End}
+use Rattle.records.specs.declared.record.Record.the-variants.{Head, Node, Tx, Rx, Signal, Destination, Broken}
+use Rattle.base.specs.Pick.{pick}
+use Rattle.records.specs.Kinds.{txBytes, formOf, lengthOf, kindOf}
 use Rattle.records.specs.Records.{sizeOf, eightBytes}
 use Rattle.plan.specs.Rows.{txFrames}
+use Rattle.area.specs.Layout.{txCountBytes, rxCountBytes, queuesStart, rxTimersStart, waitsStart}
+use Rattle.area.specs.Layout.{fullStart, txPlacesStart, rowsStart, rowsEnd, rxMasksStart, masksEnd}
 use Rattle.area.specs.Layout.{queue, txTimer, txPlace, payload, txMask}
 use Rattle.area.proofs.Frame.{Same, same-refl, same-then, same-set, same-pick}
-use Rattle.opening.specs.Opened.{nextTx, withTxTimer, withPayload, withFrame, withTx, withRxTimer, withRow, withNodeRow, withRx, withRecord, withRings, withFullness}
+use Rattle.opening.specs.Opened.{nextTx, withTxTimer, withPayload, withFrame, withTx, withRxTimer}
+use Rattle.opening.specs.Opened.{withRow, withNodeRow, withRx, withRecord, withRings, withFullness}
 use Rattle.tables.proofs.Stored.{None, put, put-two, stored, same-stored}
 
 -- ---- the parts of a Tx frame of number t
@@ -60,11 +65,11 @@ module _ {P : ℕ → Type 0} where
       (same-then (same-timer t x _ (f .timer) (f .mask)) (same-payload t (x .payload) _ (f .payload)))
 
   pub same-tx :
-      (at : ℕ) (x : TxFrame) (a : List ℕ) → NoTx P (nextTx a) → None P (queue (x .node % 16) + 2) (queue (x .node % 16) + 4) → None P 8 10
+      (at : ℕ) (x : TxFrame) (a : List ℕ) → NoTx P (nextTx a) → None P (queue (x .node % 16) + 2) (queue (x .node % 16) + 4) → None P txCountBytes rxCountBytes
       → Same P a (withTx at x a)
   unfolding withTx
   same-tx at x a own frames count =
-      put-two count 8 _ (omega arith) (omega arith) (same-then (same-own (nextTx a) at x a own) (same-frame (x .node % 16) _ frames))
+      put-two count txCountBytes _ (omega arith) (omega arith) (same-then (same-own (nextTx a) at x a own) (same-frame (x .node % 16) _ frames))
 
 pub tx-length : (at : ℕ) (x : TxFrame) (a : List ℕ) → length (withTx at x a) ≡ length a
 tx-length at x a = same-tx {P = λ j. ⊥} at x a (omega arith) (omega arith) (omega arith) .len
@@ -73,10 +78,10 @@ tx-length at x a = same-tx {P = λ j. ⊥} at x a (omega arith) (omega arith) (o
 
 -- P names no place of the header, the nodes and the Rx frames
 pub record NoRx (P : ℕ → Type 0) : Type 0 where
-  pub low : None P 0 80
-  pub timers : None P 720 1488
-  pub rows : None P 3024 4560
-  pub masks : None P 8688 8944
+  pub low : None P 0 queuesStart
+  pub timers : None P rxTimersStart waitsStart
+  pub rows : None P rowsStart rowsEnd
+  pub masks : None P rxMasksStart masksEnd
 
 module _ {P : ℕ → Type 0} (f : NoRx P) where
   same-rx-timer : (r : ℕ) (x : RxFrame) (a : List ℕ) → r < 256 → Same P a (withRxTimer r x a)
@@ -100,7 +105,7 @@ module _ {P : ℕ → Type 0} (f : NoRx P) where
   same-rx : (at : ℕ) (x : RxFrame) (a : List ℕ) → Same P a (withRx at x a)
   unfolding withRx
   same-rx at x a =
-      put-two (f .low) 10 _ (omega arith) (omega arith)
+      put-two (f .low) rxCountBytes _ (omega arith) (omega arith)
       (same-then (same-rx-timer _ x a (omega arith)) (same-then (same-row _ at x _ (omega arith)) (same-node-row _ _ _ (omega arith))))
 
 -- a record that is no Tx frame: it leaves all places of the Tx frames
@@ -111,10 +116,10 @@ pub record Other (r : Record) : Type 1 where
 -- so what is proved of the records from a place on goes by two cases
 pub along :
     (Q : ℕ → List Record → List ℕ → Type 0) → ((at : ℕ) (a : List ℕ) → Q at [] a)
-    → ((at : ℕ) (x : TxFrame) (rs : List Record) (a : List ℕ) → Q (at + 17) rs (withTx at x a) → Q at (Tx x ∷ rs) a)
+    → ((at : ℕ) (x : TxFrame) (rs : List Record) (a : List ℕ) → Q (at + txBytes) rs (withTx at x a) → Q at (Tx x ∷ rs) a)
     → ((at : ℕ) (r : Record) (rs : List Record) (a : List ℕ) → Other r → Q (at + sizeOf r) rs (withRecord at r a) → Q at (r ∷ rs) a)
     → (at : ℕ) (rs : List Record) (a : List ℕ) → Q at rs a
-unfolding txFrames withRecord sizeOf
+unfolding txFrames withRecord formOf lengthOf kindOf sizeOf pick
 along Q none tx other at [] a = none at a
 along Q none tx other at (r ∷ rs) a = step r (along Q none tx other _ rs (withRecord at r a))
   where
@@ -126,13 +131,11 @@ along Q none tx other at (r ∷ rs) a = step r (along Q none tx other _ rs (with
     step : (r : Record) → Q (at + sizeOf r) rs (withRecord at r a) → Q at (r ∷ rs) a
     step (Tx x) = tx at x rs a
     step (Head o) = by (Head o) (λ rs. refl) (λ P f at a. put (f .low) 3 o (omega arith) (omega arith) (same-refl a))
-    step (Node type) = by (Node type) (λ rs. refl) (λ P f at a. put (f .low) 6 _ (omega arith) (omega arith) (same-refl a))
+    step (Node body) = by (Node body) (λ rs. refl) (λ P f at a. put (f .low) 6 _ (omega arith) (omega arith) (same-refl a))
     step (Rx x) = by (Rx x) (λ rs. refl) (λ P f at a. same-rx f at x a)
-    step (Signal p s) = by (Signal p s) (λ rs. refl) (λ P f at a. same-refl a)
-    step (Destination t q) = by (Destination t q) (λ rs. refl) (λ P f at a. same-refl a)
-    step BadKind = by BadKind (λ rs. refl) (λ P f at a. same-refl a)
-    step (Cut kind) = by (Cut kind) (λ rs. refl) (λ P f at a. same-refl a)
-    step End = by End (λ rs. refl) (λ P f at a. same-refl a)
+    step (Signal body) = by (Signal body) (λ rs. refl) (λ P f at a. same-refl a)
+    step (Destination body) = by (Destination body) (λ rs. refl) (λ P f at a. same-refl a)
+    step (Broken fault) = by (Broken fault) (λ rs. refl) (λ P f at a. same-refl a)
 
 -- ---- the rings' starts, and the fullness
 
@@ -143,7 +146,7 @@ module _ {P : ℕ → Type 0} where
   same-rings (suc n) a none =
       put-two (none n (omega arith)) (queue n) _ (omega arith) (omega arith) (same-rings n a (λ k h. none k (omega arith)))
 
-  pub same-fullness : (sets : List ℕ) (n : ℕ) (a : List ℕ) → n ≤ 256 → None P 2000 2512 → Same P a (withFullness sets n a)
+  pub same-fullness : (sets : List ℕ) (n : ℕ) (a : List ℕ) → n ≤ 256 → None P fullStart txPlacesStart → Same P a (withFullness sets n a)
   unfolding withFullness
   same-fullness sets zero a h none = same-refl a
   same-fullness sets (suc n) a h none = put-two none _ _ (omega arith) (omega arith) (same-fullness sets n a (omega arith) none)

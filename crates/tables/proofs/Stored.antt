@@ -1,4 +1,4 @@
--- Stores in a row, and tables of two-byte numbers: what is read there afterwards, and what is left. Assumes nothing.
+-- Stores in a row, and tables of two-byte numbers: what is read there afterwards, and what is left.
 use mathlib.Core.Path.{_≡_, refl, _∙_}
 use mathlib.Core.Logic.{⊎-elim}
 use mathlib.Core.List.{List, [], _∷_}

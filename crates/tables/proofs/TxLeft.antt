@@ -1,4 +1,4 @@
--- What an opening leaves of the Tx frames that are stored already, and of the places that no record writes. Assumes nothing.
+-- What an opening leaves of the Tx frames that are stored already, and of the places that no record writes.
 use mathlib.Core.Path.{_≡_, ap, _∙_}
 use mathlib.Core.List.{List, [], _∷_}
 use Prim.Native.Nat.{ℕ, _+_, _%_, _<_, _≤_}
@@ -8,8 +8,12 @@ use Rattle.base.specs.Numbers.{twoAt}
 use Rattle.records.specs.declared.record.TxFrame.{TxFrame}
 use Rattle.records.specs.declared.record.Record.{Record}
 use Rattle.records.specs.declared.record.Record.the-variants.{Tx}
+use Rattle.base.specs.Pick.{pick}
+use Rattle.records.specs.Kinds.{formOf, lengthOf, kindOf}
 use Rattle.records.specs.Records.{sizeOf}
 use Rattle.plan.specs.Rows.{txFrames}
+use Rattle.area.specs.Layout.{txCountBytes, headerEnd, queuesStart, txTimersStart, waitsStart, fullStart}
+use Rattle.area.specs.Layout.{txPlacesStart, rowsEnd, payloadsStart, txMasksStart, masksEnd}
 use Rattle.area.specs.Layout.{queue, txTimer, txPlace, payload, txMask}
 use Rattle.area.proofs.Frame.{Same, same-refl, same-then}
 use Rattle.opening.specs.Opened.{nextTx, withTx, withRecord, withRecords, withRings, withFullness}
@@ -20,12 +24,12 @@ use Rattle.tables.proofs.Spared.{NoTx, same-tx, tx-length, NoRx, Other,
 -- ---- a place that nothing writes once the Tx frames below k are stored: no header, node, start or room of a queue, Rx frame, fullness, later frame
 
 pub record Left (k j : ℕ) : Type 0 where
-  pub low : 80 ≤ j
-  pub queues : j < 208 → 4 ≤ j % 8
-  pub timers : 208 ≤ j → j < 1488 → j < txTimer k
-  pub tables : 2000 ≤ j → j < 4560 → (2512 ≤ j) × (j < txPlace k)
-  pub payloads : 6384 ≤ j → j < 8432 → j < payload k
-  pub masks : 8432 ≤ j → j < 8944 → j < txMask k
+  pub low : queuesStart ≤ j
+  pub queues : j < txTimersStart → 4 ≤ j % 8
+  pub timers : txTimersStart ≤ j → j < waitsStart → j < txTimer k
+  pub tables : fullStart ≤ j → j < rowsEnd → (txPlacesStart ≤ j) × (j < txPlace k)
+  pub payloads : payloadsStart ≤ j → j < txMasksStart → j < payload k
+  pub masks : txMasksStart ≤ j → j < masksEnd → j < txMask k
 
 left-rx : (k : ℕ) → k ≤ 256 → NoRx (Left k)
 left-rx k h = record {
@@ -49,14 +53,14 @@ left-queues k n h j l m p = omega (arith, p .queues (omega arith))
 -- ---- the area after one record: its length, and the number that the next Tx frame gets
 
 pub next-tx :
-    (at : ℕ) (x : TxFrame) (a : List ℕ) → 12 ≤ length a → twoAt a 8 < 256
-    → (length (withTx at x a) ≡ length a) × (twoAt (withTx at x a) 8 ≡ twoAt a 8 + 1)
+    (at : ℕ) (x : TxFrame) (a : List ℕ) → headerEnd ≤ length a → twoAt a txCountBytes < 256
+    → (length (withTx at x a) ≡ length a) × (twoAt (withTx at x a) txCountBytes ≡ twoAt a txCountBytes + 1)
 unfolding withRecords withRecord txFrames
 next-tx at x a l h = (tx-length at x a, counts at (Tx x ∷ []) a l .tx (omega arith))
 
 pub next-other :
-    (at : ℕ) (r : Record) (a : List ℕ) → Other r → 12 ≤ length a → twoAt a 8 ≤ 256
-    → (length (withRecord at r a) ≡ length a) × (twoAt (withRecord at r a) 8 ≡ twoAt a 8)
+    (at : ℕ) (r : Record) (a : List ℕ) → Other r → headerEnd ≤ length a → twoAt a txCountBytes ≤ 256
+    → (length (withRecord at r a) ≡ length a) × (twoAt (withRecord at r a) txCountBytes ≡ twoAt a txCountBytes)
 unfolding withRecords txFrames
 next-other at r a o l h =
     let e : length (txFrames (r ∷ [])) ≡ 0 = ap length (o .frames []) in
@@ -65,10 +69,10 @@ next-other at r a o l h =
 -- ---- so what stands of the Tx frames below k is left by all records that follow
 
 abbrev LeftBy : ℕ → ℕ → List Record → List ℕ → Type 0
-LeftBy k at rs a = k ≤ twoAt a 8 → twoAt a 8 + length (txFrames rs) ≤ 256 → 12 ≤ length a → Same (Left k) a (withRecords at rs a)
+LeftBy k at rs a = k ≤ twoAt a txCountBytes → twoAt a txCountBytes + length (txFrames rs) ≤ 256 → headerEnd ≤ length a → Same (Left k) a (withRecords at rs a)
 
 pub left-records : (k at : ℕ) (rs : List Record) (a : List ℕ) → LeftBy k at rs a
-unfolding withRecords withRecord sizeOf txFrames
+unfolding withRecords withRecord formOf lengthOf kindOf sizeOf pick txFrames
 left-records k =
     along (LeftBy k)
     (λ at a low most long. same-refl a)

@@ -1,4 +1,4 @@
--- What an area that a good plan opened holds of the header, the Tx frames and the queues. Assumes nothing.
+-- What an area that a good plan opened holds of the header, the Tx frames and the queues.
 use mathlib.Core.Path.{_≡_, refl, _∙_}
 use mathlib.Core.List.{List}
 use Prim.Native.Nat.{ℕ, zero, suc, _+_, _/_, _<_, _≤_}
@@ -15,13 +15,14 @@ use Rattle.plan.specs.Rows.{txOf, nodesIn, orderIn}
 use Rattle.facts.specs.Good.{GoodPlan}
 use Rattle.facts.proofs.GoodFacts.{good-facts}
 use Rattle.facts.proofs.Bounds.{good-bounds}
+use Rattle.area.specs.Layout.{orderByte, nodeCountByte, txCountBytes, fullStart, planStart, LongEnough}
 use Rattle.area.specs.Layout.{queue, txTimer, waits, full, payload, spot, order, txFrame}
 use Rattle.area.specs.Queue.{endsOf}
 use Rattle.area.proofs.Frame.{Same, same-two}
 use Rattle.opening.specs.Opened.{blank, withRecords, ringsBefore, withRings, withFullness, opened}
 use Rattle.opening.proofs.BlankLaws.{blank-length, blank-zero}
 use Rattle.opening.proofs.OpenedLaws.{opened-length, opened-marked, opened-plan, opened-counts}
-use Rattle.tables.specs.Reads.{txAt, framesOn, Header, TxTable, Rings, initial}
+use Rattle.tables.specs.Reads.{plannedTx, framesOn, Header, TxTable, Rings, initial}
 use Rattle.tables.proofs.Stored.{rows-at}
 use Rattle.tables.proofs.Spared.{same-rings, same-fullness}
 use Rattle.tables.proofs.TxLeft.{Left, left-records, left-last}
@@ -37,13 +38,13 @@ digit-spot (suc o) t b = omega arith
 
 -- the fullness of each frame is read as it was stored
 fullness-at :
-    (sets : List ℕ) (a : List ℕ) → 32768 ≤ length a → (t : ℕ) → t < 256 → twoAt (withFullness sets 256 a) (full t) ≡ owners (getD sets t 0) 64
+    (sets : List ℕ) (a : List ℕ) → LongEnough a → (t : ℕ) → t < 256 → twoAt (withFullness sets 256 a) (full t) ≡ owners (getD sets t 0) 64
 unfolding withFullness
 fullness-at sets a long t h =
     rows-at (λ n. withFullness sets n a) full (λ n. owners (getD sets n 0) 64) (λ n. refl) (omega arith) 256
     (λ n l. (omega arith, omega (arith, owners-le (getD sets n 0) 64))) 256 (omega arith) t h
 
-module _ (plan a : List ℕ) (n t r : ℕ) (good : checkPlan plan ≡ Good n t r) (room : 32768 ≤ length a) where
+module _ (plan a : List ℕ) (n t r : ℕ) (good : checkPlan plan ≡ Good n t r) (room : LongEnough a) where
   facts : GoodPlan plan
   facts = good-facts plan n t r good .0
 
@@ -55,14 +56,14 @@ module _ (plan a : List ℕ) (n t r : ℕ) (good : checkPlan plan ≡ Good n t r
   abbrev recorded : List ℕ
   recorded = withRecords 0 (records plan) (blank plan a)
 
-  zeros : (j : ℕ) → 6 ≤ j → j < 8960 → byteAt (blank plan a) j ≡ 0
+  zeros : (j : ℕ) → nodeCountByte ≤ j → j < planStart → byteAt (blank plan a) j ≡ 0
   zeros j low high = blank-zero plan a room j high (omega arith) (omega arith) (omega arith) (omega arith)
 
-  long : 32768 ≤ length (blank plan a)
+  long : LongEnough (blank plan a)
   long = omega (arith, blank-length plan a)
 
-  none : twoAt (blank plan a) 8 ≡ 0
-  none = omega (arith, zeros 8 (omega arith) (omega arith), zeros 9 (omega arith) (omega arith))
+  none : twoAt (blank plan a) txCountBytes ≡ 0
+  none = omega (arith, zeros txCountBytes (omega arith) (omega arith), zeros (txCountBytes + 1) (omega arith) (omega arith))
 
   -- what the records leave of the blank area, and what the rings and the fullness leave then
   left-blank : Same (Left 0) (blank plan a) recorded
@@ -74,22 +75,22 @@ module _ (plan a : List ℕ) (n t r : ℕ) (good : checkPlan plan ≡ Good n t r
   left-opened k = left-last k (setsOf plan) recorded
 
   -- so a place that nothing writes is zero
-  still : (j : ℕ) → 6 ≤ j → j < 8960 → Left 0 j → byteAt (opened plan a) j ≡ 0
+  still : (j : ℕ) → nodeCountByte ≤ j → j < planStart → Left 0 j → byteAt (opened plan a) j ≡ 0
   still j low high l = left-opened 0 .at j l ∙ left-blank .at j l ∙ zeros j low high
 
   -- ---- the header
 
   -- the fullness stands above the header and the queues
-  low : Same (λ j. j < 2000) (withRings 16 recorded) (opened plan a)
+  low : Same (λ j. j < fullStart) (withRings 16 recorded) (opened plan a)
   unfolding opened
   low = same-fullness (setsOf plan) 256 _ (omega arith) (omega arith)
 
   order-is : order (opened plan a) ≡ orderIn (records plan)
   order-is =
-      let P : ℕ → Type 0 = λ j. j ≡ 3 in
+      let P : ℕ → Type 0 = λ j. j ≡ orderByte in
       let s : Same P recorded (withRings 16 recorded) = same-rings 16 recorded (omega arith) in
-      let z = blank-zero plan a room 3 (omega arith) (omega arith) (omega arith) (omega arith) (omega arith) in
-      low .at 3 (omega arith) ∙ s .at 3 refl ∙ order-records 0 (records plan) (blank plan a) (facts .place) (omega (arith, long)) z
+      let z = blank-zero plan a room orderByte (omega arith) (omega arith) (omega arith) (omega arith) (omega arith) in
+      low .at orderByte (omega arith) ∙ s .at orderByte refl ∙ order-records 0 (records plan) (blank plan a) (facts .place) (omega (arith, long)) z
 
   pub opened-header : Header plan (opened plan a)
   opened-header =
@@ -107,13 +108,13 @@ module _ (plan a : List ℕ) (n t r : ℕ) (good : checkPlan plan ≡ Good n t r
 
   -- ---- the Tx frames
 
-  puts : (k : ℕ) → k < length (txOf plan) → PutTx plan (opened plan a) k (txAt plan k)
+  puts : (k : ℕ) → k < length (txOf plan) → PutTx plan (opened plan a) k (plannedTx plan k)
   unfolding txOf records
   puts k h =
       let short = good-bounds plan n t r good .short in
       let p = put-records plan (omega arith) 0 (records plan) (blank plan a) refl long (omega (arith, none, few)) k h in
-      let number : twoAt (blank plan a) 8 + k ≡ k = omega (arith, none) in
-      put-kept plan recorded (opened plan a) k (length (txOf plan)) (txAt plan k) h few (left-opened _) (rw number at p)
+      let number : twoAt (blank plan a) txCountBytes + k ≡ k = omega (arith, none) in
+      put-kept plan recorded (opened plan a) k (length (txOf plan)) (plannedTx plan k) h few (left-opened _) (rw number at p)
 
   pub opened-tx : (k : ℕ) → k < length (txOf plan) → TxTable plan (opened plan a) k
   unfolding txFrame opened
@@ -143,7 +144,7 @@ module _ (plan a : List ℕ) (n t r : ℕ) (good : checkPlan plan ≡ Good n t r
       let e = same-two low (queue k + 2) (omega arith) (omega arith) in (
         same-two low (queue k) (omega arith) (omega arith)
             ∙ ring-start (txOf plan) few recorded counted (omega (arith, left-blank .len, long)) k h,
-        rw (e, ring-room (txOf plan) few recorded counted k h),
+        rw e (ring-room (txOf plan) few recorded counted k h),
       )
 
   pub opened-rings : (k : ℕ) → k < 16 → Rings plan (opened plan a) k
@@ -165,10 +166,10 @@ module _ (plan a : List ℕ) (n t r : ℕ) (good : checkPlan plan ≡ Good n t r
       let e : spot k b / 8 ≡ payload k + b / 8 = omega arith in
       rw (order-is, digit-spot (orderIn (records plan)) k b, e, puts k h .payload (b / 8) (omega arith))
 
-  pub opened-bytes : (k i : ℕ) → k < length (txOf plan) → i < 8 → byteAt (opened plan a) (payload k + i) ≡ getD (eightBytes (txAt plan k .payload)) i 0
+  pub opened-bytes : (k i : ℕ) → k < length (txOf plan) → i < 8 → byteAt (opened plan a) (payload k + i) ≡ getD (eightBytes (plannedTx plan k .payload)) i 0
   opened-bytes k i h l = puts k h .payload i l
 
-  pub opened-tx-timer : (k : ℕ) → k < length (txOf plan) → byteAt (opened plan a) (txTimer k + 1) ≡ txAt plan k .initial
+  pub opened-tx-timer : (k : ℕ) → k < length (txOf plan) → byteAt (opened plan a) (txTimer k + 1) ≡ plannedTx plan k .initial
   opened-tx-timer k h = puts k h .initial
 
   pub opened-waits : (k : ℕ) → k < 256 → byteAt (opened plan a) (waits k) ≡ 0

@@ -1,4 +1,4 @@
--- What the records make of the Tx frames: each stands under its number as its record says. Assumes nothing.
+-- What the records make of the Tx frames: each stands under its number as its record says.
 use mathlib.Core.Path.{_≡_, sym, ap, _∙_}
 use mathlib.Core.List.{List, [], _∷_}
 use Prim.Native.Nat.{ℕ, zero, suc, _+_, _%_, _<_, _≤_}
@@ -12,10 +12,14 @@ use Rattle.clock.specs.Counter.{maskOf}
 use Rattle.records.specs.declared.record.TxFrame.{TxFrame}
 use Rattle.records.specs.declared.record.Record.{Record}
 use Rattle.records.specs.declared.record.Record.the-variants.{Tx}
-use Rattle.records.specs.Records.{sizeOf, recordAt, recordsAt, eightBytes, noTx}
+use Rattle.records.specs.Views.{noTx, asTx}
+use Rattle.base.specs.Pick.{pick}
+use Rattle.records.specs.Kinds.{txBytes, formOf, lengthOf, kindOf}
+use Rattle.records.specs.Records.{sizeOf, recordAt, recordsAt, eightBytes}
 use Rattle.records.proofs.RecordLaws.{records-step, records-end}
 use Rattle.plan.specs.Rows.{txFrames}
-use Rattle.area.specs.Layout.{txTimer, txPlace, payload, txMask, asTx}
+use Rattle.area.specs.Layout.{txCountBytes, txTimersStart, rxTimersStart, txPlacesStart, rowsStart, payloadsStart, txMasksStart, LongEnough}
+use Rattle.area.specs.Layout.{txTimer, txPlace, payload, txMask}
 use Rattle.area.proofs.Frame.{Same, same-refl, same-then, same-set, same-setTwo, same-two}
 use Rattle.opening.specs.Opened.{nextTx, withTxTimer, withPayload, withTx, withRecord, withRecords}
 use Rattle.opening.proofs.BlankLaws.{two-set}
@@ -44,7 +48,7 @@ put-kept plan a b t k x h l s p =
     }
 
 -- the area with one more Tx frame, part by part
-module _ (at : ℕ) (x : TxFrame) (a : List ℕ) (long : 32768 ≤ length a) where
+module _ (at : ℕ) (x : TxFrame) (a : List ℕ) (long : LongEnough a) where
   abbrev t : ℕ
   t = nextTx a
 
@@ -61,15 +65,15 @@ module _ (at : ℕ) (x : TxFrame) (a : List ℕ) (long : 32768 ≤ length a) whe
   loaded = withPayload t (x .payload) timed
 
   -- the counts stand before the tables
-  counted : {P : ℕ → Type 0} → None P 0 208 → Same P loaded (withTx at x a)
+  counted : {P : ℕ → Type 0} → None P 0 txTimersStart → Same P loaded (withTx at x a)
   unfolding withTx
   counted none =
-      same-setTwo 8 _ (none 8 (omega arith) (omega arith)) (none 9 (omega arith) (omega arith))
+      same-setTwo txCountBytes _ (none txCountBytes (omega arith) (omega arith)) (none (txCountBytes + 1) (omega arith) (omega arith))
       (same-frame (x .node % 16) loaded (λ j low high. none j (omega arith) (omega arith)))
 
   put-place : at < 65536 → twoAt (withTx at x a) (txPlace t) ≡ at
   put-place h =
-      let P : ℕ → Type 0 = λ j. (2512 ≤ j) × (j < 3024) in
+      let P : ℕ → Type 0 = λ j. (txPlacesStart ≤ j) × (j < rowsStart) in
       let s : Same P placed (withTx at x a) =
       same-then (same-timer t x placed (omega arith) (omega arith))
       (same-then (same-payload t (x .payload) timed (omega arith)) (counted (omega arith))) in
@@ -77,7 +81,7 @@ module _ (at : ℕ) (x : TxFrame) (a : List ℕ) (long : 32768 ≤ length a) whe
 
   put-timer : (i : ℕ) → i < 2 → byteAt (withTx at x a) (txTimer t + i) ≡ byteAt both i
   put-timer i h =
-      let P : ℕ → Type 0 = λ j. (208 ≤ j) × (j < 720) in
+      let P : ℕ → Type 0 = λ j. (txTimersStart ≤ j) × (j < rxTimersStart) in
       let s : Same P (stored placed (txTimer t) 0 both) (withTx at x a) =
       same-then (rw (timer-stored t x placed) (same-set _ _ (omega arith) (same-refl _)))
       (same-then (same-payload t (x .payload) timed (omega arith)) (counted (omega arith))) in
@@ -86,7 +90,7 @@ module _ (at : ℕ) (x : TxFrame) (a : List ℕ) (long : 32768 ≤ length a) whe
   put-mask : byteAt (withTx at x a) (txMask t) ≡ maskOf (x .prescaler)
   put-mask =
       let ends = stored placed (txTimer t) 0 both in
-      let P : ℕ → Type 0 = λ j. 8432 ≤ j in
+      let P : ℕ → Type 0 = λ j. txMasksStart ≤ j in
       let s : Same P timed (withTx at x a) = same-then (same-payload t (x .payload) timed (omega arith)) (counted (omega arith)) in
       let l : length ends ≡ length placed = same-stored {P = λ j. ⊥} placed (txTimer t) 0 both (omega arith) .len in
       s .at _ (omega arith)
@@ -94,7 +98,7 @@ module _ (at : ℕ) (x : TxFrame) (a : List ℕ) (long : 32768 ≤ length a) whe
 
   put-payload : (i : ℕ) → i < 8 → byteAt (withTx at x a) (payload t + i) ≡ byteAt (eightBytes (x .payload)) i
   put-payload i h =
-      let P : ℕ → Type 0 = λ j. 6384 ≤ j in
+      let P : ℕ → Type 0 = λ j. payloadsStart ≤ j in
       let s : Same P loaded (withTx at x a) = counted (omega arith) in
       let l : length timed ≡ length placed = same-timer {P = λ j. ⊥} t x placed (omega arith) (omega arith) .len in
       s .at _ (omega arith)
@@ -102,7 +106,7 @@ module _ (at : ℕ) (x : TxFrame) (a : List ℕ) (long : 32768 ≤ length a) whe
       (stored-at timed (payload t) (eightBytes (x .payload)) i h (rw (l, length-set, length-set) (omega arith)))
 
 put-tx :
-    (plan : List ℕ) (at : ℕ) (x : TxFrame) (a : List ℕ) → 32768 ≤ length a → at < 65536 → recordAt plan at ≡ Tx x
+    (plan : List ℕ) (at : ℕ) (x : TxFrame) (a : List ℕ) → LongEnough a → at < 65536 → recordAt plan at ≡ Tx x
     → PutTx plan (withTx at x a) (nextTx a) x
 unfolding asTx
 put-tx plan at x a long small is =
@@ -135,21 +139,21 @@ records-head plan at r rs e = go (decLt at (length plan))
 module _ (plan : List ℕ) (short : length plan ≤ 65536) where
   abbrev PutBy : ℕ → List Record → List ℕ → Type 0
   PutBy at rs a =
-      recordsAt plan at ≡ rs → 32768 ≤ length a → twoAt a 8 + length (txFrames rs) ≤ 256 → (k : ℕ) → k < length (txFrames rs)
-      → PutTx plan (withRecords at rs a) (twoAt a 8 + k) (getD (txFrames rs) k noTx)
+      recordsAt plan at ≡ rs → LongEnough a → twoAt a txCountBytes + length (txFrames rs) ≤ 256 → (k : ℕ) → k < length (txFrames rs)
+      → PutTx plan (withRecords at rs a) (twoAt a txCountBytes + k) (getD (txFrames rs) k noTx)
 
-  put-first : (at : ℕ) (x : TxFrame) (rs : List Record) (a : List ℕ) → PutBy (at + 17) rs (withTx at x a) → PutBy at (Tx x ∷ rs) a
-  unfolding txFrames withRecords withRecord sizeOf
+  put-first : (at : ℕ) (x : TxFrame) (rs : List Record) (a : List ℕ) → PutBy (at + txBytes) rs (withTx at x a) → PutBy at (Tx x ∷ rs) a
+  unfolding txFrames withRecords withRecord formOf lengthOf kindOf sizeOf pick
   put-first at x rs a rest is long most zero h =
       let r = records-head plan at (Tx x) rs is in
       let e = next-tx at x a (omega arith) (omega arith) in
-      let number : twoAt a 8 + 0 ≡ nextTx a = omega arith in
-      let later = left-records (nextTx a + 1) (at + 17) rs (withTx at x a) (omega arith) (omega arith) (omega arith) in
+      let number : twoAt a txCountBytes + 0 ≡ nextTx a = omega arith in
+      let later = left-records (nextTx a + 1) (at + txBytes) rs (withTx at x a) (omega arith) (omega arith) (omega arith) in
       rw number
       (put-kept plan (withTx at x a) _ (nextTx a) (nextTx a + 1) x (omega arith) (omega arith) later (put-tx plan at x a long (omega arith) (r .1)))
   put-first at x rs a rest is long most (suc k) h =
       let e = next-tx at x a (omega arith) (omega arith) in
-      let number : twoAt a 8 + suc k ≡ twoAt (withTx at x a) 8 + k = omega arith in
+      let number : twoAt a txCountBytes + suc k ≡ twoAt (withTx at x a) txCountBytes + k = omega arith in
       rw number (rest (records-head plan at (Tx x) rs is .2) (omega arith) (omega arith) k (omega arith))
 
   put-other :

@@ -12,17 +12,19 @@ use Rattle.bits.specs.Payload.{bitAt}
 use Rattle.bits.specs.Owners.{owners}
 use Rattle.clock.specs.Counter.{maskOf}
 use Rattle.records.specs.declared.record.TxFrame.{TxFrame}
-use Rattle.records.specs.Records.{records, noTx, eightBytes}
+use Rattle.records.specs.Views.{noTx}
+use Rattle.records.specs.Records.{records, eightBytes}
 use Rattle.plan.specs.Check.{setsOf}
 use Rattle.plan.specs.Rows.{Row, noRow, rowsOf, txOf, nodesIn, orderIn}
-use Rattle.area.specs.Layout.{txTimer, rxTimer, long, waits, full, row, txMask, rxMask, spot, marked, counter, order, nodeCount, txCount, rxCount, planOf, txFrame, rxFrame, claims}
+use Rattle.area.specs.Layout.{LongEnough, txTimer, rxTimer, long, waits, full, row, txMask, rxMask, spot, marked}
+use Rattle.area.specs.Layout.{counter, order, nodeCount, txCount, rxCount, planOf, txFrame, rxFrame, claims}
 use Rattle.area.specs.Queue.{endsOf, Apart}
-use Rattle.reception.specs.Lookup.{firstRow, rowCount}
+use Rattle.area.specs.Layout.{firstRow, rowCount}
 
 -- ---- the plan's frames by number; a number that is no frame's has an empty one
 
-abbrev pub txAt : List ℕ → ℕ → TxFrame
-txAt plan t = getD (txOf plan) t noTx
+abbrev pub plannedTx : List ℕ → ℕ → TxFrame
+plannedTx plan t = getD (txOf plan) t noTx
 
 abbrev pub rowAt : List ℕ → ℕ → Row
 rowAt plan r = getD (rowsOf plan) r noRow
@@ -35,7 +37,7 @@ framesOn n (x ∷ xs) = pick (eqb (x .node) n) 1 0 + framesOn n xs
 -- ---- what no later call changes
 
 pub record Header (plan a : List ℕ) : Type 0 where
-  pub size : 32768 ≤ length a
+  pub size : LongEnough a
   pub mark : marked a ≡ true
   pub holds : planOf a ≡ plan
   pub order : order a ≡ orderIn (records plan)
@@ -45,9 +47,9 @@ pub record Header (plan a : List ℕ) : Type 0 where
 
 -- of Tx frame t: its record, its reload value, its mask, and how many of its bits have an owner
 pub record TxTable (plan a : List ℕ) (t : ℕ) : Type 0 where
-  pub frame : txFrame a t ≡ txAt plan t
-  pub reload : byteAt a (txTimer t) ≡ txAt plan t .reload
-  pub mask : byteAt a (txMask t) ≡ maskOf (txAt plan t .prescaler)
+  pub frame : txFrame a t ≡ plannedTx plan t
+  pub reload : byteAt a (txTimer t) ≡ plannedTx plan t .reload
+  pub mask : byteAt a (txMask t) ≡ maskOf (plannedTx plan t .prescaler)
   pub full : twoAt a (full t) ≡ owners (getD (setsOf plan) t 0) 64
 
 -- of Rx frame r: its record, its claims, its key, its reload value and its mask
@@ -81,12 +83,12 @@ pub record Reads (plan a : List ℕ) : Type 0 where
 
 -- "the plan's initial bit"
 unfoldable pub initial : List ℕ → ℕ → ℕ → ℕ
-initial plan t b = bitAt (orderIn (records plan)) (eightBytes (txAt plan t .payload)) b
+initial plan t b = bitAt (orderIn (records plan)) (eightBytes (plannedTx plan t .payload)) b
 
 pub record Begun (plan a : List ℕ) : Type 0 where
   pub count : counter a ≡ 0
   pub payload : (t b : ℕ) → t < length (txOf plan) → b < 64 → bitAt (order a) a (spot t b) ≡ initial plan t b
-  pub txTimer : (t : ℕ) → t < length (txOf plan) → byteAt a (txTimer t + 1) ≡ txAt plan t .initial
+  pub txTimer : (t : ℕ) → t < length (txOf plan) → byteAt a (txTimer t + 1) ≡ plannedTx plan t .initial
   pub rxTimer : (r : ℕ) → r < length (rowsOf plan) → byteAt a (rxTimer r + 1) ≡ rowAt plan r .frame .initial
   pub long : (r : ℕ) → r < length (rowsOf plan) → byteAt a (long r) ≡ rowAt plan r .frame .long
   pub waits : (t : ℕ) → t < 256 → byteAt a (waits t) ≡ 0

@@ -1,12 +1,13 @@
 -- What is proved of an opened area, and what every later call leaves.
 use mathlib.Core.Path.{_≡_}
 use mathlib.Core.List.{List}
-use Prim.Native.Nat.{ℕ, _≤_, _<_}
+use Prim.Native.Nat.{ℕ, _<_}
 use lib.ListN.{length}
 use Rattle.records.specs.declared.record.RxNumber.{RxNumber}
 use Rattle.plan.specs.declared.verdict.Verdict.the-variants.{Good}
 use Rattle.plan.specs.Check.{checkPlan}
 use Rattle.plan.specs.Rows.{rowsOf}
+use Rattle.area.specs.Layout.{LongEnough}
 use Rattle.opening.specs.Opened.{opened}
 use Rattle.reception.specs.declared.lookup.Found.the-variants.{At, Nothing}
 use Rattle.reception.specs.Lookup.{lookedUp}
@@ -15,7 +16,7 @@ use Rattle.tables.specs.Reads.{rowAt, Reads, Begun}
 -- an area that a good plan opened
 abbrev pub OpenedReads : Type 0
 OpenedReads =
-    (plan a : List ℕ) (n t r : ℕ) → checkPlan plan ≡ Good n t r → 32768 ≤ length a → Reads plan (opened plan a) × Begun plan (opened plan a)
+    (plan a : List ℕ) (n t r : ℕ) → checkPlan plan ≡ Good n t r → LongEnough a → Reads plan (opened plan a) × Begun plan (opened plan a)
 
 -- the row of a node and an ID
 pub record Names (plan : List ℕ) (n i r : ℕ) : Type 0 where

@@ -2,14 +2,18 @@
 use answers::Fullness;
 use answers::Refusal;
 use answers::Taken;
+use area::frames::owned_bits;
 use area::frames::tx_frame;
 use area::header::is_marked;
 use area::header::node_count;
 use area::header::tx_count;
+use area::layout;
+use area::layout::AREA_LENGTH;
+use area::layout::in_range;
+use area::layout::in_width;
 use area::queue::dequeue;
 use area::queue::ends_at;
 use area::queue::oldest_of;
-use base::two_at;
 use base::wide;
 use records::record::TxNumber;
 ghost use mathlib.Core.Path.{_≡_};
@@ -31,13 +35,13 @@ pub fn take(area: &mut [u8], node: usize) -> Taken
     if ends.waiting == 0 {
         return Taken::Nothing;
     }
-    let t = oldest_of(area, node);
+    let t = oldest_of(area, ends);
     let frame = tx_frame(area, t);
-    dequeue(area, node);
+    dequeue(area, node, ends, t);
     Taken::Frame {
-        tx: TxNumber(t),
+        tx: t,
         id: frame.id,
-        size: wide(frame.size % 9),
+        size: in_width(wide(frame.size)),
         waiting: ends.waiting - 1,
     }
 }
@@ -46,11 +50,11 @@ pub fn take(area: &mut [u8], node: usize) -> Taken
 fn part(area: &[u8], tx: TxNumber, size: usize) -> &[u8]
     ensures { λ r. ⌜ now r ≡ keptPart (now (area .entry)) (tx .0) size ⌝ }
 {
-    if area.len() < 32768 {
+    if area.len() < AREA_LENGTH {
         return &area[..0];
     }
-    let from = 6384 + 8 * (tx.0 % 256);
-    let end = from + size % 9;
+    let from = layout::payload(in_range(tx));
+    let end = from + in_width(size);
     &area[from..end]
 }
 
@@ -81,5 +85,5 @@ pub fn fullness(area: &[u8], tx: usize) -> Fullness
     if tx_count(area) <= tx {
         return Fullness::Refused(Refusal::NoFrame);
     }
-    Fullness::Owned(two_at(area, 2000 + 2 * tx) % 65)
+    Fullness::Owned(owned_bits(area, TxNumber(tx)))
 }

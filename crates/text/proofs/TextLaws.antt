@@ -1,4 +1,4 @@
--- Laws of text put into a line, of decimal numbers, and of what is written for each byte. Assumes nothing.
+-- Laws of text put into a line, of decimal numbers, and of what is written for each byte.
 use mathlib.Core.Path.{_≡_, refl, sym, ap, _∙_}
 use mathlib.Core.Logic.{⊎-elim}
 use mathlib.Core.List.{List, [], _∷_, _++_, append-assoc, append-nil}

@@ -1,15 +1,15 @@
--- What the steps of a tick leave, over any set of places P that no step writes. Assumes nothing.
+-- What the steps of a tick leave, over any set of places P that no step writes.
 use mathlib.Core.Path.{refl}
 use mathlib.Core.List.{List}
 use mathlib.Core.Option.{Option}
-use Prim.Native.Nat.{ℕ, zero, suc, _/_, _<_, _≤_}
+use Prim.Native.Nat.{ℕ, zero, suc, _+_, _/_, _<_, _≤_}
 use native.Mathlib.Omega.{arith}
 use lib.Dec.{eqb}
 use Rattle.base.proofs.Picks.{both}
 use Rattle.records.specs.declared.record.RxFrame.{RxFrame}
 use Rattle.records.specs.declared.record.Record.{Record}
 use Rattle.plan.specs.Rows.{awaited}
-use Rattle.area.specs.Layout.{spot, txTimer, rxTimer, order, txCount, rxCount, rxFrame, claims}
+use Rattle.area.specs.Layout.{counterByte, txTimersStart, fullStart, spot, txTimer, rxTimer, order, txCount, rxCount, rxFrame, claims}
 use Rattle.area.specs.Claims.{expired, allDone}
 use Rattle.area.proofs.Frame.{Same, same-refl, same-then, same-set, same-pick, same-setBit, Spared, spared-scheduled}
 use Rattle.area.proofs.Kept.{Kept, planned}
@@ -40,7 +40,7 @@ module _ {P : ℕ → Type 0} where
   same-failed a r missed = rw (expired-sets (order a) r r (awaited (rxFrame a r)) 0 0 _ a) (same-awaited (order a) (rxFrame a r) _ a missed)
 
 module _ {P : ℕ → Type 0} (f : Spared P) where
-  same-timed : (a : List ℕ) (at : ℕ) → 208 ≤ at → at < 1999 → Same P a (timed a at)
+  same-timed : (a : List ℕ) (at : ℕ) → txTimersStart ≤ at → at + 1 < fullStart → Same P a (timed a at)
   unfolding timed
   same-timed a at l m = same-set _ _ (f .low _ (omega arith) (omega arith)) (same-refl a)
 
@@ -71,12 +71,12 @@ module _ {P : ℕ → Type 0} (f : Spared P) where
   same-rxTicks missed k zero a h = same-refl a
   same-rxTicks missed k (suc n) a h = same-then (same-rxTicks missed k n a (omega arith)) (same-rxTick k _ n (omega arith) (missed _))
 
-  pub same-ticked : ((q : ℕ) → Missed P q) → (P 2 → ⊥) → (a : List ℕ) → Same P a (ticked a)
+  pub same-ticked : ((q : ℕ) → Missed P q) → (P counterByte → ⊥) → (a : List ℕ) → Same P a (ticked a)
   unfolding ticked
   same-ticked missed two a =
       same-set _ _ two (same-then (same-txTicks _ (txCount a) a (omega arith)) (same-rxTicks missed _ (rxCount a) _ (omega arith)))
 
--- where the positions are bytes, what the plan says and all from 8960 on stays
+-- where the positions are bytes, what the plan says stays, and all from there on
 kept-rxTick : (k : ℕ) (a : List ℕ) (r : ℕ) → r < 256 → Positions a → Kept a (rxTick k a r)
 kept-rxTick k a r h positions =
     let s = positions-kept (same-timed planned a (rxTimer r) (omega arith) (omega arith)) positions r h in

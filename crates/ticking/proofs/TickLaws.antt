@@ -1,4 +1,4 @@
--- What a tick leaves of an area, and what it makes of the counter and the report. Assumes nothing.
+-- What a tick leaves of an area, and what it makes of the counter and the report.
 use mathlib.Core.Path.{_≡_, refl, _∙_}
 use mathlib.Core.List.{List}
 use Prim.Native.Nat.{ℕ, zero, suc, _<_, _≤_}
@@ -11,7 +11,7 @@ use Rattle.base.proofs.Picks.{both}
 use Rattle.clock.specs.Counter.{counterNext}
 use Rattle.answers.specs.declared.Ticked.{Ticked}
 use Rattle.answers.specs.declared.Ticked.the-variants.{Done, Refused}
-use Rattle.area.specs.Layout.{marked, counter, txCount, rxCount, planOf, txFrame, rxFrame, claims}
+use Rattle.area.specs.Layout.{counterByte, planStart, marked, counter, txCount, rxCount, planOf, txFrame, rxFrame, claims}
 use Rattle.area.proofs.Frame.{Same, Spared, same-tail}
 use Rattle.area.proofs.Kept.{in-plan, planOf-kept, txFrame-kept, rxFrame-kept, claims-kept}
 use Rattle.ticking.specs.Tick.{txTicks, expiredReport, rxReport, rxTicks, reported, ticked, tickedArea, tickedReport}
@@ -20,10 +20,10 @@ use Rattle.ticking.proofs.TickFrame.{same-txTicks, same-rxTicks, same-t
 
 -- ---- on any area: the length, the mark, the counter
 
-spared-mark : Spared (λ j. j < 2)
+spared-mark : Spared (λ j. j < counterByte)
 spared-mark = record { ends = λ n h j l m p. omega arith; low = λ j l m p. omega arith; high = λ j l m p. omega arith }
 
-front-ticked : (a : List ℕ) → Same (λ j. j < 2) a (ticked a)
+front-ticked : (a : List ℕ) → Same (λ j. j < counterByte) a (ticked a)
 front-ticked a = same-ticked spared-mark (λ q t h p. omega arith) (λ p. omega arith) a
 
 pub length-ticked : (a : List ℕ) → length (ticked a) ≡ length a
@@ -34,19 +34,19 @@ unfolding marked
 marked-ticked a = rw (length-ticked a, front-ticked a .at 0 (omega arith), front-ticked a .at 1 (omega arith))
 
 -- it moves by the counter's own rule, from what it was before the timers were handled
-pub counter-ticked : (a : List ℕ) → 2 < length a → counter (ticked a) ≡ counterNext (counter a)
+pub counter-ticked : (a : List ℕ) → counterByte < length a → counter (ticked a) ≡ counterNext (counter a)
 unfolding ticked
 counter-ticked a h =
     let timers = rxTicks (counter a) (rxCount a) (txTicks (counter a) (txCount a) a) in
     let tx = same-txTicks spared-mark (counter a) (txCount a) a (omega arith) .len in
     let rx : length timers ≡ length a = same-rxTicks spared-mark (λ q t l p. omega arith) _ (rxCount a) _ (omega arith) .len ∙ tx in
-    getD-set-same timers 2 _ 0 (omega arith)
+    getD-set-same timers counterByte _ 0 (omega arith)
 
--- ---- where the failure positions are bytes: the plan, the frames, the claims, and every byte from 8960 on
+-- ---- where the failure positions are bytes: the plan, the frames, the claims, and every byte from the plan on
 
 module _ (a : List ℕ) (positions : Positions a) where
-  pub tail-ticked : drop 8960 (ticked a) ≡ drop 8960 a
-  tail-ticked = same-tail 8960 (kept-ticked a positions) in-plan
+  pub tail-ticked : drop planStart (ticked a) ≡ drop planStart a
+  tail-ticked = same-tail planStart (kept-ticked a positions) in-plan
 
   pub planOf-ticked : planOf (ticked a) ≡ planOf a
   planOf-ticked = planOf-kept (kept-ticked a positions)

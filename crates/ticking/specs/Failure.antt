@@ -4,7 +4,7 @@ use mathlib.Core.List.{List, [], _∷_}
 use mathlib.Core.Option.{Option, none, some}
 use Rattle.bits.specs.Payload.{setBit}
 use Rattle.records.specs.declared.record.Record.{Record}
-use Rattle.records.specs.declared.record.Record.the-variants.{Head, Node, Tx, Rx, Signal, Destination, BadKind, Cut, End}
+use Rattle.records.specs.Views.{inRow}
 use Rattle.area.specs.Layout.{spot}
 use Rattle.ticking.specs.declared.expiry.Target.{Target}
 use Rattle.ticking.specs.declared.expiry.Target.the-variants.{In, Nowhere}
@@ -12,15 +12,7 @@ use Rattle.ticking.specs.declared.expiry.Target.the-variants.{In, Nowher
 -- the Tx frame of the first destination among records, where only signals stand before it
 unfoldable pub firstTarget : List Record → Target
 firstTarget [] = Nowhere
-firstTarget (Signal p s ∷ rs) = firstTarget rs
-firstTarget (Destination t q ∷ rs) = In t
-firstTarget (Head order ∷ rs) = Nowhere
-firstTarget (Node type ∷ rs) = Nowhere
-firstTarget (Tx frame ∷ rs) = Nowhere
-firstTarget (Rx frame ∷ rs) = Nowhere
-firstTarget (BadKind ∷ rs) = Nowhere
-firstTarget (Cut kind ∷ rs) = Nowhere
-firstTarget (End ∷ rs) = Nowhere
+firstTarget (r ∷ rs) = inRow Nowhere (λ frame. Nowhere) (λ body. firstTarget rs) (λ body. In (body .tx)) r
 
 -- the area with the bit at position q of that Tx frame set
 unfoldable pub setIn : ℕ → ℕ → Target → List ℕ → List ℕ

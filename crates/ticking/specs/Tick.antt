@@ -1,25 +1,20 @@
 -- "Tick. .. The counter moves on last. .. Tx timers go first, in number order: expiry reloads and schedules. Rx timers follow, in number order."
 use Prim.Native.Nat.{ℕ, zero, suc, _+_}
-use mathlib.Core.Bool.{Bool}
 use mathlib.Core.List.{List}
 use lib.Dec.{leb, eqb}
-use lib.Bits.{bitAnd}
 use lib.ListN.{length, set}
 use Rattle.base.specs.Pick.{pick}
 use Rattle.base.specs.Numbers.{byteAt}
-use Rattle.clock.specs.Counter.{counterNext}
+use Rattle.clock.specs.Counter.{counterNext, noCommonBit}
 use Rattle.clock.specs.Timer.{lowered}
-use Rattle.area.specs.Layout.{txTimer, rxTimer, long, txMask, rxMask, marked, counter, order, txCount, rxCount, rxFrame, claims}
+use Rattle.area.specs.Layout.{counterByte, txTimer, rxTimer, long, txMask, rxMask, marked, counter, order, txCount, rxCount, rxFrame, claims}
 use Rattle.area.specs.Queue.{scheduled}
 use Rattle.area.specs.Claims.{expired, allDone}
 use Rattle.answers.specs.declared.Refusal.the-variants.{NotOpen, ShortReport}
 use Rattle.answers.specs.declared.Ticked.{Ticked}
 use Rattle.answers.specs.declared.Ticked.the-variants.{Done, Refused}
 
--- ---- a timer at a place: "A timer is handled where the counter and the mask .. have no common bit"
-
-unfoldable pub due : ℕ → ℕ → Bool
-due k mask = eqb (bitAnd k mask) 0
+-- ---- a timer at a place
 
 -- "A timer holding 0 is left so. Otherwise it falls by one; at 0 it has expired and takes its reload value." at is the place of its reload value
 unfoldable pub timed : List ℕ → ℕ → List ℕ
@@ -29,7 +24,7 @@ timed a at = set a (at + 1) (lowered (byteAt a at) (byteAt a (at + 1)))
 
 unfoldable pub txTick : ℕ → List ℕ → ℕ → List ℕ
 txTick k a t =
-    pick (due k (byteAt a (txMask t)))
+    pick (noCommonBit k (byteAt a (txMask t)))
     (pick (eqb (byteAt a (txTimer t + 1)) 1) (scheduled (timed a (txTimer t)) t) (timed a (txTimer t)))
     a
 
@@ -54,12 +49,12 @@ expiredReport a r = pick (eqb (byteAt a (long r)) 1) 2 1
 
 unfoldable pub rxTick : ℕ → List ℕ → ℕ → List ℕ
 rxTick k a r =
-    pick (due k (byteAt a (rxMask r)))
+    pick (noCommonBit k (byteAt a (rxMask r)))
     (pick (eqb (byteAt a (rxTimer r + 1)) 1) (expiredArea (timed a (rxTimer r)) r) (timed a (rxTimer r)))
     a
 
 unfoldable pub rxReport : ℕ → List ℕ → ℕ → ℕ
-rxReport k a r = pick (due k (byteAt a (rxMask r))) (pick (eqb (byteAt a (rxTimer r + 1)) 1) (expiredReport a r) 0) 0
+rxReport k a r = pick (noCommonBit k (byteAt a (rxMask r))) (pick (eqb (byteAt a (rxTimer r + 1)) 1) (expiredReport a r) 0) 0
 
 unfoldable pub rxTicks : ℕ → ℕ → List ℕ → List ℕ
 rxTicks k zero a = a
@@ -74,7 +69,7 @@ reported k (suc n) a report = set (reported k n a report) n (rxReport k (rxTicks
 
 unfoldable pub ticked : List ℕ → List ℕ
 ticked a =
-    set (rxTicks (counter a) (rxCount a) (txTicks (counter a) (txCount a) a)) 2 (counterNext (counter a))
+    set (rxTicks (counter a) (rxCount a) (txTicks (counter a) (txCount a) a)) counterByte (counterNext (counter a))
 
 -- "For calls: 11, then .. 14."
 unfoldable pub tickAnswer : List ℕ → List ℕ → Ticked

@@ -2,17 +2,22 @@
 use area::claims::set_failure;
 use area::frames::plan_of;
 use area::frames::rx_frame;
+use area::frames::signals_place;
+use area::layout::ORDER_BYTE;
+use area::layout::long;
 use records::reader::read_record;
 use records::record::Record;
+use records::record::RxFrame;
+use records::record::RxNumber;
 use records::record::TxNumber;
 ghost use mathlib.Core.Path.{_≡_};
-ghost use Prim.Native.Nat.{_≤_, _<_};
-ghost use lib.ListN.{length};
+ghost use Prim.Native.Nat.{_<_};
+ghost use Rattle.base.specs.Numbers.{byteAt};
 ghost use Rattle.records.specs.Records.{recordsAt};
-ghost use Rattle.area.specs.Layout.{order, claims};
+ghost use Rattle.area.specs.Layout.{LongEnough, long, order, rxFrame, claims};
 ghost use Rattle.area.specs.Claims.{expired, allDone};
 ghost use Rattle.ticking.specs.Failure.{firstTarget};
-ghost use Rattle.ticking.specs.Tick.{longLowered, expiredArea, expiredReport};
+ghost use Rattle.ticking.specs.Tick.{expiredArea, expiredReport};
 
 // Where a failure bit goes.
 pub enum Target {
@@ -26,15 +31,14 @@ fn first_target(plan: &[u8], from: usize) -> Target
 {
     let mut at = from;
     while at < plan.len() {
-        let record = read_record(plan, at);
-        match record {
-            Record::Signal {
-                position: _,
-                size: _,
-            } => {
-                at += 3;
+        let step = read_record(plan, at);
+        let met = step.found;
+        match met {
+            Record::Signal(_) => {
+                at = step.next;
             }
-            Record::Destination { tx, position: _ } => {
+            Record::Destination(body) => {
+                let tx = body.tx;
                 return Target::In(tx);
             }
             _ => {
@@ -45,40 +49,36 @@ fn first_target(plan: &[u8], from: usize) -> Target
     Target::Nowhere
 }
 
-// The failure bit of Rx frame `r` is set, where it has one. Of all its claims an expiry acts on this one alone.
-fn fail(area: &mut [u8], r: usize)
-    requires { ⌜ (r < 256) × (32768 ≤ length (now area)) ⌝ }
-    ensures { λ x. ⌜ now (area .exit) ≡ allDone (order (now (area .entry))) (expired r) (claims (now (area .entry)) r) (now (area .entry)) ⌝ }
+// The failure bit of Rx frame `r`, whose record is `frame`, is set, where it has one. Of all its claims an expiry acts on this one alone.
+fn fail(area: &mut [u8], r: RxNumber, frame: RxFrame)
+    requires { ⌜ (r .0 < 256) × (frame ≡ rxFrame (now area) (r .0)) × LongEnough (now area) ⌝ }
+    ensures bytes { λ x. ⌜ now (area .exit) ≡
+        allDone (order (now (area .entry))) (expired (r .0)) (claims (now (area .entry)) (r .0)) (now (area .entry)) ⌝ }
+    ensures frame { λ x. ⌜ rxFrame (now (area .exit)) (r .0) ≡ rxFrame (now (area .entry)) (r .0) ⌝ }
+    ensures count { λ x. ⌜ byteAt (now (area .exit)) (long (r .0)) ≡ byteAt (now (area .entry)) (long (r .0)) ⌝ }
 {
-    let frame = rx_frame(area, r);
     if frame.enable == 1 {
-        let order = area[3];
-        let at = base::two_at(area, 3024 + 6 * r + 4) + 11;
-        let target = first_target(plan_of(area), at);
+        let order = area[ORDER_BYTE];
+        let from = signals_place(area, r);
+        let target = first_target(plan_of(area), from);
         if let Target::In(tx) = target {
-            set_failure(order, area, tx.0, base::wide(frame.position), 1);
+            set_failure(order, area, tx, base::wide(frame.position), 1);
         }
     }
 }
 
-// The long counter of Rx frame `r` falls, and takes the long count again at 0.
-fn lower_long(area: &mut [u8], r: usize)
-    requires { ⌜ (r < 256) × (32768 ≤ length (now area)) ⌝ }
-    ensures { λ x. ⌜ now (area .exit) ≡ longLowered (now (area .entry)) r ⌝ }
+// Rx timer `r` has expired: the failure bit is set, and the long counter falls and takes the long count again at 0. The answer is the
+// timer's byte of the report: 1 short, 2 long.
+pub fn expire(area: &mut [u8], r: RxNumber) -> u8
+    requires { ⌜ (r .0 < 256) × LongEnough (now area) ⌝ }
+    ensures report { λ x. ⌜ x ≡ expiredReport (now (area .entry)) (r .0) ⌝ }
+    ensures bytes { λ x. ⌜ now (area .exit) ≡ expiredArea (now (area .entry)) (r .0) ⌝ }
 {
     let frame = rx_frame(area, r);
-    area[1232 + r] = clock::timer::lower(frame.long, area[1232 + r]);
-}
-
-// Rx timer `r` has expired. The answer is its byte of the report: 1 short, 2 long.
-pub fn expire(area: &mut [u8], r: usize) -> u8
-    requires { ⌜ (r < 256) × (32768 ≤ length (now area)) ⌝ }
-    ensures report { λ x. ⌜ x ≡ expiredReport (now (area .entry)) r ⌝ }
-    ensures bytes { λ x. ⌜ now (area .exit) ≡ expiredArea (now (area .entry)) r ⌝ }
-{
-    let count = area[1232 + r];
-    fail(area, r);
-    lower_long(area, r);
+    let at = long(r);
+    let count = area[at];
+    fail(area, r, frame);
+    area[at] = clock::timer::lower(frame.long, count);
     if count == 1 {
         return 2;
     }

@@ -1,4 +1,6 @@
 // The tick: Tx timers first, then Rx timers with the report, and last the counter.
 mod expiry;
+mod rx;
 pub mod tick;
-mod timers;
+mod timer;
+mod tx;

@@ -1,4 +1,4 @@
--- `answers::reason_number` meets its contract: by the variant. Assumes nothing.
+-- `answers::reason_number` meets its contract: by the variant.
 use borrow.Author.Needs.{needs}
 use Rattle.plan.specs.Refusals.{numberOf}
 use Rattle.answers.proofs.reason_number.Statement.{statement}

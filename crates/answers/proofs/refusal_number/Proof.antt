@@ -1,4 +1,4 @@
--- `answers::refusal_number` meets its contract: by the variant. Assumes nothing.
+-- `answers::refusal_number` meets its contract: by the variant.
 use borrow.Author.Needs.{needs}
 use Rattle.answers.specs.Answers.{refusalNumber}
 use Rattle.answers.proofs.refusal_number.Statement.{statement}

@@ -1,4 +1,4 @@
--- `base::put_two` meets its contract: the second byte stands where it stood after the first is stored. Assumes nothing.
+-- `base::put_two` meets its contract: the second byte stands where it stood after the first is stored.
 use native.Mathlib.Omega.{arith}
 use lib.ListN.{length-set}
 use borrow.Author.Needs.{needs}

@@ -1,4 +1,4 @@
--- `bench::begin` meets its contract: by the input's front. Assumes nothing.
+-- `bench::begin` meets its contract: by the input's front.
 use mathlib.Core.Path.{sym, _∙_}
 use native.Mathlib.Omega.{arith}
 use borrow.Author.Needs.{needs}

@@ -1,4 +1,4 @@
--- `bench::event` meets its contract: by the variant; an event lies within the input, so the next one begins behind it. Assumes nothing.
+-- `bench::event` meets its contract: by the variant; an event lies within the input, so the next one begins behind it.
 use mathlib.Core.Path.{refl, sym, ap, _∙_}
 use native.Mathlib.Omega.{arith}
 use borrow.Author.Needs.{needs}

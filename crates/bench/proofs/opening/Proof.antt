@@ -1,4 +1,4 @@
--- `bench::opening` meets its contract: by the opening's answer; a good plan has no more Rx frames than a report has bytes. Assumes nothing.
+-- `bench::opening` meets its contract: by the opening's answer; a good plan has no more Rx frames than a report has bytes.
 use Prim.Native.Nat.{ℕ, _≤_}
 use mathlib.Core.Path.{_≡_, refl, sym, ap, _∙_}
 use mathlib.Core.List.{List}
@@ -11,6 +11,7 @@ use Rattle.plan.specs.declared.verdict.Verdict.{Verdict}
 use Rattle.plan.specs.declared.verdict.Verdict.the-variants as verdict
 use Rattle.plan.specs.Check.{checkPlan}
 use Rattle.facts.proofs.Bounds.{good-bounds}
+use Rattle.area.specs.Layout.{areaLength}
 use Rattle.answers.specs.declared.Refusal.{Refusal}
 use Rattle.answers.specs.declared.Opened.{Opened}
 use Rattle.answers.specs.declared.Opened.the-variants.{Open, Refused}
@@ -33,16 +34,16 @@ refused-few why number n t r e = let z : _≡_ {A = ℕ} 0 1 = cc in absurd (ome
 verdict-few : (plan : List ℕ) (size : ℕ) (v : Verdict) → checkPlan plan ≡ v → Few (openedAnswer v size)
 unfolding openedAnswer
 verdict-few plan size (verdict.Good n t r) e =
-    both Few (leb 32768 size) _ _
+    both Few (leb areaLength size) _ _
     (λ n′ t′ r′ o. let same : r ≡ r′ = cc in rw same at (good-bounds plan n t r e .rx))
     (refused-few _ _)
 verdict-few plan size (verdict.Refused reason number) e = refused-few _ _
 
 -- the answer is that on an area of 32,768 bytes of 0
-on-zeros : (input area : List ℕ) (end : ℕ) (answer : Opened) → area ≡ replicate 32768 0
+on-zeros : (input area : List ℕ) (end : ℕ) (answer : Opened) → area ≡ replicate areaLength 0
     → answer ≡ openedAnswer (checkPlan (planOf input end)) (length area) → planText answer input end ≡ planText (openOf input end) input end
 on-zeros input area end answer zeros e =
-    let long = ap length zeros ∙ length-replicate {A = ℕ} 32768 0 in
+    let long = ap length zeros ∙ length-replicate {A = ℕ} areaLength 0 in
     ap (λ (o : Opened). planText o input end) (e ∙ ap (λ (n : ℕ). openedAnswer (checkPlan (planOf input end)) n) long)
 
 returns : tie.Need-returns

@@ -1,4 +1,4 @@
--- `bench::received` meets its contract: the payload that it hands on is the first bytes of its buffer. Assumes nothing.
+-- `bench::received` meets its contract: the payload that it hands on is the first bytes of its buffer.
 use mathlib.Core.Path.{sym}
 use native.Mathlib.Omega.{arith}
 use borrow.Author.Needs.{needs}

@@ -1,5 +1,5 @@
 -- `bench::run` meets its contract. The loop's invariant: some text, as long as what was handed on, and then the text from here on is the whole
--- output. Assumes nothing.
+-- output.
 use Prim.Native.Nat.{ℕ, _+_, _*_, _-_, _≤_}
 use mathlib.Core.Path.{_≡_, refl, sym, ap, _∙_}
 use mathlib.Core.List.{List, _++_, append-assoc, append-nil}
@@ -7,6 +7,7 @@ use native.Mathlib.Omega.{arith}
 use borrow.Author.Needs.{needs}
 use lib.ListN.{length, take, length-append, length-replicate}
 use lib.Seq.{length-take-le}
+use Rattle.area.specs.Layout.{areaLength}
 use Rattle.output.specs.Output.{textFrom, benchOutput}
 use Rattle.output.proofs.OutputLaws.{text-end}
 use Rattle.bench.proofs.run.Statement.{statement}
@@ -15,7 +16,7 @@ use Rattle.bench.proofs.run.Tie as tie
 abbrev Inv-loop : tie.InvT-loop
 Inv-loop input area₀ out₀ total₀ rx at₀ area out total at =
     ((shown : List ℕ) × ((shown ++ textFrom input at rx area ≡ benchOutput input) × (length shown ≡ total)))
-    × (at ≤ length input) × (rx ≤ 256) × (length out ≡ 65536) × (length area ≡ 32768) × (total ≤ 65536 * (at + 1))
+    × (at ≤ length input) × (rx ≤ 256) × (length out ≡ 65536) × (length area ≡ areaLength) × (total ≤ 65536 * (at + 1))
 
 abbrev μ-loop : tie.MeasureT-loop
 μ-loop input area₀ out₀ total₀ rx at₀ area out total at = length input - at
@@ -36,7 +37,7 @@ loop-holds c =
       omega arith,
       omega arith,
       long,
-      begin .kept .1 .0 ∙ length-replicate {A = ℕ} 32768 0,
+      begin .kept .1 .0 ∙ length-replicate {A = ℕ} areaLength 0,
       omega arith,
     )
 

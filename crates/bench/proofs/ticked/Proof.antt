@@ -1,4 +1,4 @@
--- `bench::ticked` meets its contract: it lends the tick as much of a fresh report as it shows. Assumes nothing.
+-- `bench::ticked` meets its contract: it lends the tick as much of a fresh report as it shows.
 use Prim.Native.Nat.{ℕ, _+_, _-_, _≤_}
 use mathlib.Core.Path.{_≡_, sym, ap, _∙_}
 use mathlib.Core.List.{List}

@@ -1,4 +1,4 @@
--- `bench::took` meets its contract: the payload that it shows is short, and is the one that the take left. Assumes nothing.
+-- `bench::took` meets its contract: the payload that it shows is short, and is the one that the take left.
 use Prim.Native.Nat.{ℕ, _≤_}
 use mathlib.Core.List.{List}
 use native.Mathlib.Omega.{arith}
@@ -6,6 +6,7 @@ use borrow.Author.Needs.{needs}
 use lib.Dec.{leb}
 use lib.ListN.{length, length-take}
 use Rattle.base.proofs.Picks.{both}
+use Rattle.area.specs.Layout.{areaLength}
 use Rattle.answers.specs.declared.Taken.{Taken}
 use Rattle.answers.specs.declared.Taken.the-variants.{Nothing, Frame, Refused}
 use Rattle.taking.specs.Taken.{keptPart, takenPayload}
@@ -19,7 +20,7 @@ unfolding takenPayload keptPart
 short a Nothing = omega arith
 short a (Refused why) = omega arith
 short a (Frame t id size waiting) =
-    both (λ (p : List ℕ). length p ≤ 256) (leb 32768 (length a)) _ _
+    both (λ (p : List ℕ). length p ≤ 256) (leb areaLength (length a)) _ _
     (simp length-take (omega arith)) (omega arith)
 
 take-line-requires : tie.Need-take-line-requires

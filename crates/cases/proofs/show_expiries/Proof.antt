@@ -1,4 +1,4 @@
--- `cases::show_expiries` is safe and ends: the tick stays below 100. Assumes nothing.
+-- `cases::show_expiries` is safe and ends: the tick stays below 100.
 use Prim.Native.Nat.{_-_, _≤_}
 use borrow.Author.Needs.{needs}
 use Rattle.cases.proofs.show_expiries.Statement.{statement}
@@ -13,4 +13,5 @@ abbrev μ-loop : tie.MeasureT-loop
 pub show-expiries-spec : {M : Type 1} → statement M
 show-expiries-spec =
     tie.close
-    (tie.spec Inv-loop μ-loop (λ c. search needs) (λ c κs. search needs) (λ c κs. search needs) (λ c κs. search needs) (λ c κs. search needs) (λ c κs. search needs) (λ c. search needs) (λ c. search needs) (λ c. search needs) (λ c. search needs))
+    (tie.spec Inv-loop μ-loop (λ c. search needs) (λ c κs. search needs) (λ c κs. search needs) (λ c κs. search needs)
+    (λ c κs. search needs) (λ c κs. search needs) (λ c. search needs) (λ c. search needs) (λ c. search needs) (λ c. search needs))

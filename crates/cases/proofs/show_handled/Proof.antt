@@ -1,4 +1,4 @@
--- `cases::show_handled` is safe and ends: it counts up to the tick. Assumes nothing.
+-- `cases::show_handled` is safe and ends: it counts up to the tick.
 use Prim.Native.Nat.{_-_, _≤_}
 use borrow.Author.Needs.{needs}
 use Rattle.cases.proofs.show_handled.Statement.{statement}
@@ -13,4 +13,6 @@ abbrev μ-loop : tie.MeasureT-loop
 pub show-handled-spec : {M : Type 1} → statement M
 show-handled-spec =
     tie.close
-    (tie.spec Inv-loop μ-loop (λ c. search needs) (λ c κs. search needs) (λ c. search needs) (λ c. search needs) (λ c. search needs) (λ c κs. search needs) (λ c. search needs) (λ c κs. search needs) (λ c. search needs) (λ c κs. search needs) (λ c. search needs) (λ c. search needs))
+    (tie.spec Inv-loop μ-loop (λ c. search needs) (λ c κs. search needs) (λ c. search needs) (λ c. search needs) (λ c. search needs)
+    (λ c κs. search needs) (λ c. search needs) (λ c κs. search needs) (λ c. search needs) (λ c κs. search needs) (λ c. search needs)
+    (λ c. search needs))

@@ -1,4 +1,4 @@
--- `cases::show_whole` is safe and ends: the index stays below 8. Assumes nothing.
+-- `cases::show_whole` is safe and ends: the index stays below 8.
 use Prim.Native.Nat.{_-_, _≤_}
 use borrow.Author.Needs.{needs}
 use Rattle.cases.proofs.show_whole.Statement.{statement}
@@ -13,4 +13,6 @@ abbrev μ-loop : tie.MeasureT-loop
 pub show-whole-spec : {M : Type 1} → statement M
 show-whole-spec =
     tie.close
-    (tie.spec Inv-loop μ-loop (λ c. search needs) (λ c. search needs) (λ c κs. search needs) (λ c. search needs) (λ c. search needs) (λ c κs. search needs) (λ c κs. search needs) (λ c. search needs) (λ c. search needs) (λ c. search needs) (λ c κs. search needs) (λ c. search needs))
+    (tie.spec Inv-loop μ-loop (λ c. search needs) (λ c. search needs) (λ c κs. search needs) (λ c. search needs) (λ c. search needs)
+    (λ c κs. search needs) (λ c κs. search needs) (λ c. search needs) (λ c. search needs) (λ c. search needs) (λ c κs. search needs)
+    (λ c. search needs))

@@ -1,5 +1,5 @@
 -- `events::event_at` meets its contract: each return has passed the tests that the definition passes to the same event; that it lies
--- within the input is a law. Assumes nothing.
+-- within the input is a law.
 use mathlib.Core.Path.{_∙_}
 use native.Mathlib.Omega.{arith}
 use borrow.Author.Needs.{needs}

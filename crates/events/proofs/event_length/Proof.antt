@@ -1,4 +1,4 @@
--- `events::event_length` meets its contract: at each return the kind is known, and the definition computes. Assumes nothing.
+-- `events::event_length` meets its contract: at each return the kind is known, and the definition computes.
 use mathlib.Core.Path.{refl}
 use native.Mathlib.Omega.{arith}
 use Rattle.base.specs.Pick.{pick}

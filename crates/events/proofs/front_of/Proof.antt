@@ -1,4 +1,4 @@
--- `events::front_of` meets its contract: each return has passed the tests that the definition passes to the same answer. Assumes nothing.
+-- `events::front_of` meets its contract: each return has passed the tests that the definition passes to the same answer.
 use native.Mathlib.Omega.{arith}
 use borrow.Author.Needs.{needs}
 use Rattle.events.proofs.EventLaws.{front-long, front-cut, front-short, front-plan}

@@ -1,4 +1,4 @@
--- `events::payload_at` meets its contract: it copies what the definition names; the copy's place and length are the definition's. Assumes nothing.
+-- `events::payload_at` meets its contract: it copies what the definition names; the copy's place and length are the definition's.
 use Prim.Native.Nat.{_+_, _-_}
 use mathlib.Core.Path.{_≡_}
 use native.Mathlib.Omega.{arith}

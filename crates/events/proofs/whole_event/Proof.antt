@@ -1,5 +1,5 @@
 -- `events::whole_event` meets its contract: at each return the kind is known, and the caller keeps the bytes of that kind within the
--- input. Assumes nothing.
+-- input.
 use mathlib.Core.Path.{ap}
 use native.Mathlib.Omega.{arith}
 use borrow.Author.Needs.{needs}

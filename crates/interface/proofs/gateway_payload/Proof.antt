@@ -1,4 +1,4 @@
--- `interface::gateway_payload` meets its contract: the part that the word says is the payload. Assumes nothing.
+-- `interface::gateway_payload` meets its contract: the part that the word says is the payload.
 use borrow.Author.Needs.{needs}
 use denote.Ref.{now}
 use Rattle.interface.specs.Unpacked.{takenOf}

@@ -1,4 +1,4 @@
--- `lines::bad_line` meets its contract: it is the definition's word alone. Assumes nothing.
+-- `lines::bad_line` meets its contract: it is the definition's word alone.
 use borrow.Author.Needs.{needs}
 use Rattle.lines.specs.Lines.{badLine}
 use Rattle.lines.proofs.bad_line.Statement.{statement}

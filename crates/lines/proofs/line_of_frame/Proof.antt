@@ -1,4 +1,4 @@
--- `lines::line_of_frame` meets its contract: it puts the definition's parts in their order. Assumes nothing.
+-- `lines::line_of_frame` meets its contract: it puts the definition's parts in their order.
 use Prim.Native.Nat.{_≤_}
 use native.Mathlib.Omega.{arith}
 use borrow.Author.Needs.{needs}

@@ -1,4 +1,4 @@
--- `lines::line_of_three` meets its contract: it puts the word, the three numbers and the line feed. Assumes nothing.
+-- `lines::line_of_three` meets its contract: it puts the word, the three numbers and the line feed.
 use native.Mathlib.Omega.{arith}
 use Rattle.lines.specs.Lines.{numbersLine}
 use Rattle.text.proofs.TextLaws.{put-then}

@@ -1,4 +1,4 @@
--- `lines::line_of_word` meets its contract: it puts the word and then the line feed. Assumes nothing.
+-- `lines::line_of_word` meets its contract: it puts the word and then the line feed.
 use native.Mathlib.Omega.{arith}
 use Rattle.lines.specs.Lines.{wordLine}
 use Rattle.text.proofs.TextLaws.{put-then}

@@ -1,4 +1,4 @@
--- `lines::plan_line` meets its contract: by the variant. Assumes nothing.
+-- `lines::plan_line` meets its contract: by the variant.
 use borrow.Author.Needs.{needs}
 use Rattle.lines.specs.Lines.{planLine}
 use Rattle.lines.proofs.plan_line.Statement.{statement}

@@ -1,4 +1,4 @@
--- `lines::put_payload` meets its contract: the test is the definition's. Assumes nothing.
+-- `lines::put_payload` meets its contract: the test is the definition's.
 use native.Mathlib.Omega.{arith}
 use borrow.Author.Tests.{eq-eqb, ne-eqb}
 use Rattle.base.specs.Pick.{pick}

@@ -1,4 +1,4 @@
--- `lines::rx_line` meets its contract: by the variant. Assumes nothing.
+-- `lines::rx_line` meets its contract: by the variant.
 use borrow.Author.Needs.{needs}
 use Rattle.answers.specs.Answers.{receivedNumber}
 use Rattle.lines.specs.Lines.{rxLine}

@@ -1,4 +1,4 @@
--- `lines::take_line` meets its contract: by the variant. Assumes nothing.
+-- `lines::take_line` meets its contract: by the variant.
 use borrow.Author.Needs.{needs}
 use Rattle.lines.specs.Lines.{takeLine}
 use Rattle.lines.proofs.take_line.Statement.{statement}

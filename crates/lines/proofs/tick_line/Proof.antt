@@ -1,4 +1,4 @@
--- `lines::tick_line` meets its contract: by the variant. Assumes nothing.
+-- `lines::tick_line` meets its contract: by the variant.
 use borrow.Author.Needs.{needs}
 use Rattle.lines.specs.Lines.{tickLine}
 use Rattle.lines.proofs.tick_line.Statement.{statement}

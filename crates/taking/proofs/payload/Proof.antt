@@ -1,4 +1,4 @@
--- `taking::payload` meets its contract: by the answer. Assumes nothing.
+-- `taking::payload` meets its contract: by the answer.
 use Rattle.taking.specs.Taken.{takenPayload}
 use borrow.Author.Needs.{needs}
 use Rattle.taking.proofs.payload.Statement.{statement}
@@ -19,4 +19,5 @@ returns-3 c = rw (c .before .before .taken .given .1) (c .part .ensures)
 pub payload-spec : {M : Type 1} → statement M
 payload-spec =
     tie.close
-    (tie.spec (λ c. search needs) (λ c. search needs) (λ c. search needs) (λ c. search needs) (λ c. search needs) (λ c κs. search needs) returns returns-2 returns-3)
+    (tie.spec (λ c. search needs) (λ c. search needs) (λ c. search needs) (λ c. search needs) (λ c. search needs) (λ c κs. search needs)
+    returns returns-2 returns-3)

@@ -1,5 +1,5 @@
 -- `text::put_digits` meets its contract: below 10 it is the one digit, and else a tenth of the number has been put, which is smaller, and
--- the last digit follows. Assumes nothing.
+-- the last digit follows.
 use Prim.Native.Nat.{ℕ, _<_}
 use native.Mathlib.Omega.{arith}
 use borrow.Fn.Kinds.{In}
@@ -39,7 +39,8 @@ pub +put-digits-spec : {M : Type 1} → statement M
     (λ c κs. let test = c .before .before in omega (arith, length-one (test .before .before .args .n) (test .if1 .taken)))
     (λ c. omega arith)
     (λ c. let test = c .before .before .before .before .before in
-    rw (decimal-one (test .before .before .args .n) (test .if1 .taken), ← (c .before .before .before .before .digit .ensures)) (c .before .before .put-byte .ensures))
+    rw (decimal-one (test .before .before .args .n) (test .if1 .taken), ← (c .before .before .before .before .digit .ensures))
+    (c .before .before .put-byte .ensures))
     (λ c κs. omega arith)
     (λ c κs. let test = c .before .before in let l = length-more (test .before .before .args .n) (test .if1 .left) in (omega arith, omega arith))
     (λ c κs. let test = c .before .before .before .before .before .before in omega (arith, length-more (test .before .before .args .n) (test .if1 .left)))
@@ -47,4 +48,5 @@ pub +put-digits-spec : {M : Type 1} → statement M
     (λ c. let tenth = c .before .before .before .before .before .before in
     let last = tenth .before .before in
     let test = last .before in
-    rw (decimal-more (test .before .before .args .n) (test .if1 .left), ← (last .digit2 .ensures)) (put-then (tenth .put-digits .ensures) (c .before .before .put-byte2 .ensures)))
+    rw (decimal-more (test .before .before .args .n) (test .if1 .left), ← (last .digit2 .ensures))
+    (put-then (tenth .put-digits .ensures) (c .before .before .put-byte2 .ensures)))

@@ -1,4 +1,4 @@
--- `text::digit` meets its contract: the test is the definition's. Assumes nothing.
+-- `text::digit` meets its contract: the test is the definition's.
 use borrow.Author.Needs.{needs}
 use borrow.Author.Tests.{lt-ltb, le-ltb}
 use Rattle.base.specs.Pick.{pick}

@@ -1,4 +1,4 @@
--- `text::put_byte` meets its contract: it is one store. Assumes nothing.
+-- `text::put_byte` meets its contract: it is one store.
 use borrow.Author.Needs.{needs}
 use Rattle.text.proofs.TextLaws.{put-one}
 use Rattle.text.proofs.put_byte.Statement.{statement}

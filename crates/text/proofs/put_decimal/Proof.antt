@@ -1,4 +1,4 @@
--- `text::put_decimal` meets its contract: a usize has no more than 20 digits. Assumes nothing.
+-- `text::put_decimal` meets its contract: a usize has no more than 20 digits.
 use native.Mathlib.Omega.{arith}
 use Rattle.text.proofs.TextLaws.{decimal-length}
 use Rattle.text.proofs.put_decimal.Statement.{statement}

@@ -1,4 +1,4 @@
--- `text::put_hex` meets its contract. The loop's invariant: the first `i` bytes are put, two digits each. Assumes nothing.
+-- `text::put_hex` meets its contract. The loop's invariant: the first `i` bytes are put, two digits each.
 use Prim.Native.Nat.{_+_, _*_, _-_, _≤_}
 use mathlib.Core.Path.{_≡_}
 use native.Mathlib.Omega.{arith}

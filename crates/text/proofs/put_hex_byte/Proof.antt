@@ -1,4 +1,4 @@
--- `text::put_hex_byte` meets its contract: it puts one digit and then the other. Assumes nothing.
+-- `text::put_hex_byte` meets its contract: it puts one digit and then the other.
 use mathlib.Core.Path.{_≡_}
 use mathlib.Core.List.{[], _∷_}
 use borrow.Author.Needs.{needs}

@@ -1,4 +1,4 @@
--- `text::put_number` meets its contract: it puts the space and then the number. Assumes nothing.
+-- `text::put_number` meets its contract: it puts the space and then the number.
 use native.Mathlib.Omega.{arith}
 use Rattle.text.specs.Text.{spaced}
 use Rattle.text.proofs.TextLaws.{put-then}

@@ -1,4 +1,4 @@
--- `text::put_three` meets its contract: it puts one number after the other. Assumes nothing.
+-- `text::put_three` meets its contract: it puts one number after the other.
 use native.Mathlib.Omega.{arith}
 use Rattle.text.specs.Text.{each}
 use Rattle.text.proofs.TextLaws.{put-none, put-then}

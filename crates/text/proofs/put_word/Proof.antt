@@ -1,4 +1,4 @@
--- `text::put_word` meets its contract. The loop's invariant: the word's first `i` bytes are put. Assumes nothing.
+-- `text::put_word` meets its contract. The loop's invariant: the word's first `i` bytes are put.
 use Prim.Native.Nat.{_+_, _-_, _≤_}
 use mathlib.Core.Path.{_≡_}
 use native.Mathlib.Omega.{arith}

@@ -1,4 +1,4 @@
--- `area::claims::send_if` meets its contract: by the flags and whether a bit changed. Assumes nothing.
+-- `area::claims::send_if` meets its contract: by the flags and whether a bit changed.
 use borrow.Author.Tests.{eq-eqb, ne-eqb}
 use borrow.Author.Needs.{needs}
 use Rattle.base.specs.Pick.{pick}
@@ -12,7 +12,9 @@ returns c = simp (eq-eqb _ _ (c .before .before .before .before .if1 .taken)) cc
 
 returns-2 : tie.Need-returns-2
 unfolding sentIf pick
-returns-2 c = simp (ne-eqb _ _ (c .before .before .before .before .before .before .if1 .left), eq-eqb _ _ (c .before .before .before .before .before .if2 .taken), c .before .before .before .before .if3 .taken) cc
+returns-2 c =
+    let c4 = c .before .before .before .before in
+    simp (ne-eqb _ _ (c4 .before .before .if1 .left), eq-eqb _ _ (c4 .before .if2 .taken), c4 .if3 .taken) cc
 
 returns-3 : tie.Need-returns-3
 unfolding sentIf pick

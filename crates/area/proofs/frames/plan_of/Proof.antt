@@ -1,4 +1,4 @@
--- `area::frames::plan_of` meets its contract: the part ends where it begins and the plan's length more. Assumes nothing.
+-- `area::frames::plan_of` meets its contract: the part ends where it begins and the plan's length more.
 use native.Mathlib.Nat.{add-sub-cancel-left}
 use borrow.Author.Needs.{needs}
 use Rattle.area.specs.Layout.{planOf}

@@ -1,4 +1,4 @@
--- `area::frames::rx_frame` meets its contract: it reads the record that the row names. Assumes nothing.
+-- `area::frames::rx_frame` meets its contract: it reads the record that the row names.
 use borrow.Author.Needs.{needs}
 use Rattle.area.specs.Layout.{rxFrame}
 use Rattle.area.proofs.frames.rx_frame.Statement.{statement}
@@ -10,5 +10,4 @@ returns c = cc
 
 pub rx-frame-spec : {M : Type 1} → statement M
 rx-frame-spec =
-    tie.close
-    (tie.spec (λ c. search needs) (λ c. search needs) (λ c. search needs) (λ c κs. search needs) (λ c κs. search needs) (λ c κs. search needs) (λ c κs. search needs) returns)
+    tie.close (tie.spec (λ c κs. search needs) (λ c κs. search needs) (λ c κs. search needs) (λ c κs. search needs) returns)

@@ -1,4 +1,4 @@
--- `area::header::is_marked` meets its contract: each of the three ways out decides the mark. Assumes nothing.
+-- `area::header::is_marked` meets its contract: each of the three ways out decides the mark.
 use mathlib.Core.Bool.{false≢true}
 use mathlib.Core.Path.{refl}
 use native.Mathlib.Omega.{arith}

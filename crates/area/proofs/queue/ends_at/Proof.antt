@@ -1,4 +1,4 @@
--- `area::queue::ends_at` meets its contract: it reads the four numbers of the queue's record. Assumes nothing.
+-- `area::queue::ends_at` meets its contract: it reads the four numbers of the queue's record.
 use native.Mathlib.Omega.{arith}
 use borrow.Author.Needs.{needs}
 use Rattle.area.specs.Queue.{endsOf}
@@ -12,4 +12,5 @@ returns c = (cc, omega arith, omega arith, omega arith, omega arith, omega arith
 pub ends-at-spec : {M : Type 1} → statement M
 ends-at-spec =
     tie.close
-    (tie.spec (λ c. search needs) (λ c. search needs) (λ c κs. search needs) (λ c. search needs) (λ c κs. search needs) (λ c. search needs) (λ c. search needs) (λ c κs. search needs) (λ c. search needs) (λ c κs. search needs) returns)
+    (tie.spec (λ c. search needs) (λ c. search needs) (λ c κs. search needs) (λ c. search needs) (λ c κs. search needs) (λ c. search needs)
+    (λ c. search needs) (λ c κs. search needs) (λ c. search needs) (λ c κs. search needs) returns)

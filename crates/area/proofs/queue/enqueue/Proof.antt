@@ -1,4 +1,4 @@
--- `area::queue::enqueue` meets its contract: the ends that it read are those of the area as it was. Assumes nothing.
+-- `area::queue::enqueue` meets its contract: the ends that it read are those of the area as it was.
 use borrow.Author.Needs.{needs}
 use Rattle.area.specs.Queue.{queued}
 use Rattle.area.proofs.queue.enqueue.Statement.{statement}
@@ -19,4 +19,5 @@ returns c =
 pub enqueue-spec : {M : Type 1} → statement M
 enqueue-spec =
     tie.close
-    (tie.spec (λ c κs. search needs) (λ c κs. search needs) (λ c κs. search needs) (λ c κs. search needs) (λ c κs. search needs) (λ c. search needs) returns)
+    (tie.spec (λ c κs. search needs) (λ c κs. search needs) (λ c κs. search needs) (λ c κs. search needs) (λ c κs. search needs)
+    (λ c. search needs) returns)

@@ -1,4 +1,4 @@
--- `area::queue::put_ends` meets its contract: two numbers of two bytes. Assumes nothing.
+-- `area::queue::put_ends` meets its contract: two numbers of two bytes.
 use borrow.Author.Needs.{needs}
 use Rattle.area.specs.Queue.{setEnds}
 use Rattle.area.proofs.queue.put_ends.Statement.{statement}
@@ -11,4 +11,5 @@ returns c = cc
 pub put-ends-spec : {M : Type 1} → statement M
 put-ends-spec =
     tie.close
-    (tie.spec (λ c. search needs) (λ c. search needs) (λ c. search needs) (λ c κs. search needs) (λ c. search needs) (λ c κs. search needs) (λ c. search needs) returns)
+    (tie.spec (λ c. search needs) (λ c. search needs) (λ c. search needs) (λ c κs. search needs) (λ c. search needs) (λ c κs. search needs)
+    (λ c. search needs) returns)

@@ -1,4 +1,4 @@
--- `area::queue::slot_of` meets its contract: the place within the ring is no larger than what it is the rest of. Assumes nothing.
+-- `area::queue::slot_of` meets its contract: the place within the ring is no larger than what it is the rest of.
 use mathlib.Core.Path.{refl}
 use Prim.Native.Nat.{_+_}
 use native.Mathlib.Nat.{mod-le}

@@ -1,4 +1,4 @@
--- `bits::digits::digit_of` meets its contract: the order is 0 or it is not. Assumes nothing.
+-- `bits::digits::digit_of` meets its contract: the order is 0 or it is not.
 use native.Mathlib.Omega.{arith}
 use Rattle.bits.specs.Payload.{digitOf}
 use Rattle.bits.proofs.PayloadLaws.{digitOf-little}

@@ -1,4 +1,4 @@
--- `bits::digits::get` meets its contract: a shift is a division by a power of two. Assumes nothing.
+-- `bits::digits::get` meets its contract: a shift is a division by a power of two.
 use Rattle.bits.specs.Digit.{digit}
 use borrow.Author.Needs.{needs}
 use Rattle.bits.proofs.digits.get.Statement.{statement}

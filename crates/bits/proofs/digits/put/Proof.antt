@@ -1,4 +1,4 @@
--- `bits::digits::put` meets its contract: the old digit's weight is in the byte, and the sum is a byte again. Assumes nothing.
+-- `bits::digits::put` meets its contract: the old digit's weight is in the byte, and the sum is a byte again.
 use native.Mathlib.Omega.{arith}
 use Rattle.bits.specs.Digit.{setDigit}
 use Rattle.bits.proofs.DigitLaws.{digit-weight, setDigit-lt}
@@ -14,11 +14,16 @@ sub-result c = rw (c .get .ensures .0, c .before .weight .ensures) (digit-weight
 
 mul-result-2 : tie.Need-mul-result-2
 unfolding setDigit
-mul-result-2 c = rw (c .before .weight .ensures) (omega (arith, setDigit-lt 8 0 (c .before .before .args .e) (c .before .before .args .v) (search needs) (search needs) (search needs)))
+mul-result-2 c = rw (c .before .weight .ensures)
+    (omega (arith, setDigit-lt 8 0 (c .before .before .args .e) (c .before .before .args .v) (search needs) (search needs) (search needs)))
 
 add-result : tie.Need-add-result
 unfolding setDigit
-add-result c = rw (c .get .ensures .0, c .before .weight .ensures) (record { fits = setDigit-lt 8 (c .before .before .args .byte) (c .before .before .args .e) (c .before .before .args .v) (search needs) (search needs) (search needs) })
+add-result c = rw (c .get .ensures .0, c .before .weight .ensures)
+    (record {
+      fits = setDigit-lt 8 (c .before .before .args .byte) (c .before .before .args .e) (c .before .before .args .v) (search needs)
+          (search needs) (search needs);
+    })
 
 returns : tie.Need-returns
 unfolding setDigit

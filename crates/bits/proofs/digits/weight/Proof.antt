@@ -1,4 +1,4 @@
--- `bits::digits::weight` meets its contract: 1 shifted by less than 8 loses nothing. Assumes nothing.
+-- `bits::digits::weight` meets its contract: 1 shifted by less than 8 loses nothing.
 use native.Mathlib.Nat.{one-mul, mod-eq-of-lt}
 use lib.Pow.{pow-lt}
 use borrow.Author.Needs.{needs}

@@ -1,4 +1,4 @@
--- `bits::owners::count` meets its contract: the count of a set is that of its ones. Assumes nothing.
+-- `bits::owners::count` meets its contract: the count of a set is that of its ones.
 use Rattle.bits.proofs.OwnerLaws.{owners-ones, owners-le}
 use Rattle.bits.proofs.owners.count.Statement.{statement}
 use Rattle.bits.proofs.owners.count.Tie as tie

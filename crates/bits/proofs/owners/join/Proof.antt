@@ -1,5 +1,5 @@
 -- `bits::owners::join` meets its contract: the range's bits are made as one number, which has a digit in common with the set where a bit
--- clashes, and joins it by an or where none does. Assumes nothing.
+-- clashes, and joins it by an or where none does.
 use mathlib.Core.Path.{_≡_, sym, ap, _∙_}
 use lib.Bits.{bitAnd}
 use Rattle.base.proofs.Picks.{picks, passes}

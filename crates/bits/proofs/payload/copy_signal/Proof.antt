@@ -1,5 +1,5 @@
 -- `bits::payload::copy_signal` meets its contract. The loop's invariant: after k bits the kept payload is `copied` of k, and the answer
--- `differs` of k. Assumes nothing.
+-- `differs` of k.
 use mathlib.Core.Path.{_≡_, _∙_}
 use mathlib.Core.Logic.{⊎-elim}
 use Prim.Native.Nat.{_-_, _≤_}
@@ -37,7 +37,8 @@ loop-again c =
         ← c .before .before .before .before .before .read-bit2 .ensures .0,
         ← c .before .before .before .before .before .before .before .read-bit .ensures .0,
       )
-          (⊎-elim (λ w. rw (ne-eqb _ _ (w .0 .taken)) (w .1)) (λ w. rw (eq-eqb _ _ (w .0 .left)) (w .1 ∙ l .inv .3)) (c .before .before .before .before .if1 .came)),
+          (⊎-elim (λ w. rw (ne-eqb _ _ (w .0 .taken)) (w .1)) (λ w. rw (eq-eqb _ _ (w .0 .left)) (w .1
+          ∙ l .inv .3)) (c .before .before .before .before .if1 .came)),
     )
 
 returns : tie.Need-returns Inv-loop μ-loop
@@ -48,4 +49,5 @@ returns c =
 pub copy-signal-spec : {M : Type 1} → statement M
 copy-signal-spec =
     tie.close
-    (tie.spec Inv-loop μ-loop loop-holds (λ c. search needs) (λ c κs. search needs) (λ c. search needs) (λ c κs. search needs) (λ c. search needs) (λ c κs. search needs) (λ c. search needs) (λ c. search needs) loop-again (λ c. search needs) returns)
+    (tie.spec Inv-loop μ-loop loop-holds (λ c. search needs) (λ c κs. search needs) (λ c. search needs) (λ c κs. search needs) (λ c. search needs)
+    (λ c κs. search needs) (λ c. search needs) (λ c. search needs) loop-again (λ c. search needs) returns)

@@ -1,4 +1,4 @@
--- `bits::payload::read_bit` meets its contract: it reads the digit of the byte that the position names. Assumes nothing.
+-- `bits::payload::read_bit` meets its contract: it reads the digit of the byte that the position names.
 use Rattle.bits.specs.Payload.{bitAt}
 use borrow.Author.Needs.{needs}
 use Rattle.bits.proofs.payload.read_bit.Statement.{statement}

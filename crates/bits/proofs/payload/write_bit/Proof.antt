@@ -1,4 +1,4 @@
--- `bits::payload::write_bit` meets its contract: it replaces the digit of the byte that the position names. Assumes nothing.
+-- `bits::payload::write_bit` meets its contract: it replaces the digit of the byte that the position names.
 use Rattle.bits.specs.Payload.{setBit}
 use borrow.Author.Needs.{needs}
 use Rattle.bits.proofs.payload.write_bit.Statement.{statement}

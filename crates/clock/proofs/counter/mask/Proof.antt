@@ -1,4 +1,4 @@
--- `counter::mask` meets its promise: each arm is the definition's case of the number that it names. Assumes nothing.
+-- `counter::mask` meets its promise: each arm is the definition's case of the number that it names.
 use borrow.Author.Tests.{ne-eqb}
 use Rattle.base.specs.Pick.{pick}
 use Rattle.clock.specs.Counter.{maskOf}

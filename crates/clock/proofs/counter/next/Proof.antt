@@ -1,4 +1,4 @@
--- `counter::next` meets its promise: both sums are the definition's, and the test of the low nibble picks its case. Assumes nothing.
+-- `counter::next` meets its promise: both sums are the definition's, and the test of the low nibble picks its case.
 use mathlib.Core.Path.{_≡_}
 use Prim.Native.Nat.{_+_, _%_}
 use native.Mathlib.Omega.{arith}

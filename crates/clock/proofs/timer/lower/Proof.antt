@@ -1,4 +1,4 @@
--- `timer::lower` meets its promise: the two tests pick the definition's case. Assumes nothing.
+-- `timer::lower` meets its promise: the two tests pick the definition's case.
 use mathlib.Core.Path.{_≡_}
 use borrow.Author.Needs.{needs}
 use borrow.Author.Tests.{eq-eqb, ne-eqb}

@@ -1,4 +1,4 @@
--- `interface::words::fullness_word` meets its contract: by the variant. Assumes nothing.
+-- `interface::words::fullness_word` meets its contract: by the variant.
 use borrow.Author.Needs.{needs}
 use Rattle.interface.specs.Words.{fullnessWord}
 use Rattle.interface.proofs.words.fullness_word.Statement.{statement}

@@ -1,4 +1,4 @@
--- `interface::words::opened_word` meets its contract: by the variant. Assumes nothing.
+-- `interface::words::opened_word` meets its contract: by the variant.
 use borrow.Author.Needs.{needs}
 use Rattle.interface.specs.Words.{openedWord}
 use Rattle.interface.proofs.words.opened_word.Statement.{statement}

@@ -1,4 +1,4 @@
--- `interface::words::pack` meets its contract: it computes what the definition says. Assumes nothing.
+-- `interface::words::pack` meets its contract: it computes what the definition says.
 use mathlib.Core.Path.{refl}
 use borrow.Author.Needs.{needs}
 use Rattle.interface.specs.Words.{packed}
@@ -9,4 +9,5 @@ pub pack-spec : {M : Type 1} → statement M
 unfolding packed
 pack-spec =
     tie.close
-    (tie.spec (λ c. search needs) (λ c. search needs) (λ c. search needs) (λ c. search needs) (λ c. search needs) (λ c. search needs) (λ c. refl))
+    (tie.spec (λ c. search needs) (λ c. search needs) (λ c. search needs) (λ c. search needs) (λ c. search needs) (λ c. search needs)
+    (λ c. refl))

@@ -1,4 +1,4 @@
--- `interface::words::received_number` meets its contract: by the variant. Assumes nothing.
+-- `interface::words::received_number` meets its contract: by the variant.
 use borrow.Author.Needs.{needs}
 use Rattle.answers.specs.Answers.{receivedNumber}
 use Rattle.interface.proofs.words.received_number.Statement.{statement}

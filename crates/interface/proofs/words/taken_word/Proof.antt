@@ -1,4 +1,4 @@
--- `interface::words::taken_word` meets its contract: by the variant. Assumes nothing.
+-- `interface::words::taken_word` meets its contract: by the variant.
 use borrow.Author.Needs.{needs}
 use Rattle.interface.specs.Words.{takenWord}
 use Rattle.interface.proofs.words.taken_word.Statement.{statement}

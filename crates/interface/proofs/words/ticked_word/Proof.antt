@@ -1,4 +1,4 @@
--- `interface::words::ticked_word` meets its contract: by the variant. Assumes nothing.
+-- `interface::words::ticked_word` meets its contract: by the variant.
 use borrow.Author.Needs.{needs}
 use Rattle.interface.specs.Words.{tickedWord}
 use Rattle.interface.proofs.words.ticked_word.Statement.{statement}

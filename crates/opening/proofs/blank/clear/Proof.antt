@@ -1,20 +1,21 @@
--- `opening::blank::clear` meets its contract: after i turns the first i bytes are zero. Assumes nothing.
+-- `opening::blank::clear` meets its contract: after i turns the first i bytes are zero.
 use mathlib.Core.Path.{_≡_, refl}
 use Prim.Native.Nat.{_≤_, _-_}
 use native.Mathlib.Nat.{le-antisymm}
 use native.Mathlib.Numerals.{add-one}
 use native.Mathlib.Omega.{arith}
 use lib.ListN.{length}
+use Rattle.area.specs.Layout.{areaLength}
 use Rattle.opening.specs.Opened.{cleared}
 use borrow.Author.Needs.{needs}
 use Rattle.opening.proofs.blank.clear.Statement.{statement}
 use Rattle.opening.proofs.blank.clear.Tie as tie
 
 abbrev Inv-loop : tie.InvT-loop
-Inv-loop area₀ i₀ area i = (area ≡ cleared i area₀) × (i ≤ 32768) × (length area ≡ length area₀)
+Inv-loop area₀ i₀ area i = (area ≡ cleared i area₀) × (i ≤ areaLength) × (length area ≡ length area₀)
 
 abbrev μ-loop : tie.MeasureT-loop
-μ-loop area₀ i₀ area i = 32768 - i
+μ-loop area₀ i₀ area i = areaLength - i
 
 loop-holds : tie.Need-loop-holds Inv-loop μ-loop
 unfolding cleared

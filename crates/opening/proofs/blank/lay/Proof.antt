@@ -1,4 +1,4 @@
--- `opening::blank::lay` meets its contract: after i turns the first i bytes of the plan are laid. Assumes nothing.
+-- `opening::blank::lay` meets its contract: after i turns the first i bytes of the plan are laid.
 use mathlib.Core.Path.{_≡_, refl}
 use Prim.Native.Nat.{_≤_, _-_}
 use native.Mathlib.Nat.{le-antisymm}
@@ -30,4 +30,5 @@ returns c = let e = le-antisymm (c .before .loop .inv .1) (c .loop-test .left) i
 pub lay-spec : {M : Type 1} → statement M
 lay-spec =
     tie.close
-    (tie.spec Inv-loop μ-loop loop-holds (λ c. search needs) (λ c. search needs) (λ c. search needs) (λ c. search needs) (λ c. search needs) loop-again (λ c. search needs) returns)
+    (tie.spec Inv-loop μ-loop loop-holds (λ c. search needs) (λ c. search needs) (λ c. search needs) (λ c. search needs) (λ c. search needs)
+    loop-again (λ c. search needs) returns)

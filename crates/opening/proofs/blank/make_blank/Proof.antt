@@ -1,4 +1,4 @@
--- `opening::blank::make_blank` meets its contract: zeros, the plan, and four bytes. Assumes nothing.
+-- `opening::blank::make_blank` meets its contract: zeros, the plan, and four bytes.
 use mathlib.Core.Path.{_∙_}
 use native.Mathlib.Omega.{arith}
 use lib.ListN.{length-set}

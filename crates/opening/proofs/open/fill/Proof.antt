@@ -1,4 +1,4 @@
--- `opening::open::fill` meets its contract: four parts, one after the other. Assumes nothing.
+-- `opening::open::fill` meets its contract: four parts, one after the other.
 use borrow.Author.Needs.{needs}
 use Rattle.opening.proofs.open.fill.Statement.{statement}
 use Rattle.opening.proofs.open.fill.Tie as tie

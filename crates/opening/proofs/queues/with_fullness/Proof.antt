@@ -1,4 +1,4 @@
--- `opening::queues::with_fullness` meets its contract: after t turns the first t frames have their counts. Assumes nothing.
+-- `opening::queues::with_fullness` meets its contract: after t turns the first t frames have their counts.
 use mathlib.Core.Path.{_≡_, refl}
 use Prim.Native.Nat.{_≤_, _-_}
 use native.Mathlib.Nat.{le-antisymm}
@@ -33,4 +33,5 @@ returns c = let e = le-antisymm (c .before .loop .inv .1) (c .loop-test .left) i
 pub with-fullness-spec : {M : Type 1} → statement M
 with-fullness-spec =
     tie.close
-    (tie.spec Inv-loop μ-loop loop-holds (λ c. search needs) (λ c. search needs) (λ c κs. search needs) (λ c. search needs) (λ c. search needs) cast-put-two (λ c κs. search needs) (λ c. search needs) (λ c. search needs) loop-again (λ c. search needs) returns)
+    (tie.spec Inv-loop μ-loop loop-holds (λ c. search needs) (λ c. search needs) (λ c κs. search needs) (λ c κs. search needs) cast-put-two
+    (λ c κs. search needs) (λ c. search needs) (λ c. search needs) loop-again (λ c. search needs) returns)

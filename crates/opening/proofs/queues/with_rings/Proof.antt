@@ -1,10 +1,11 @@
--- `opening::queues::with_rings` meets its contract: a ring's start is stored where no room stands, so the rooms are those of the entry. Assumes nothing.
+-- `opening::queues::with_rings` meets its contract: a ring's start is stored where no room stands, so the rooms are those of the entry.
 use mathlib.Core.Path.{_≡_, refl}
 use Prim.Native.Nat.{_*_, _≤_, _-_}
 use native.Mathlib.Nat.{le-antisymm}
 use native.Mathlib.Numerals.{add-one}
 use native.Mathlib.Omega.{arith}
 use lib.ListN.{length}
+use Rattle.area.specs.Layout.{mostRoom}
 use Rattle.opening.specs.Opened.{ringsBefore, withRings}
 use Rattle.opening.proofs.Kept.{start-next}
 use borrow.Author.Needs.{needs}
@@ -12,7 +13,8 @@ use Rattle.opening.proofs.queues.with_rings.Statement.{statement}
 use Rattle.opening.proofs.queues.with_rings.Tie as tie
 
 abbrev Inv-loop : tie.InvT-loop
-Inv-loop area₀ start₀ n₀ area start n = (area ≡ withRings n area₀) × (n ≤ 16) × (length area ≡ length area₀) × (start ≡ ringsBefore area₀ n) × (start ≤ 512 * n)
+Inv-loop area₀ start₀ n₀ area start n =
+    (area ≡ withRings n area₀) × (n ≤ 16) × (length area ≡ length area₀) × (start ≡ ringsBefore area₀ n) × (start ≤ mostRoom * n)
 
 abbrev μ-loop : tie.MeasureT-loop
 μ-loop area₀ start₀ n₀ area start n = 16 - n
@@ -24,8 +26,11 @@ loop-holds c = (refl, omega arith, refl, refl, omega arith)
 loop-again : tie.Need-loop-again Inv-loop μ-loop
 unfolding withRings ringsBefore
 loop-again c =
-    let l = c .before .before .before .before .before .before .before .loop .inv in
-    (rw add-one cc, omega arith, cc, start-next _ _ _ _ _ (l .0) (l .3) (c .before .before .before .before .two-at .ensures .0), omega arith)
+    let c4 = c .before .before .before .before in
+    let c6 = c4 .before .before in
+    let c8 = c6 .before .before in
+    let l = c8 .loop .inv in
+    (rw add-one cc, omega arith, cc, start-next _ _ _ _ _ (l .0) (l .3) (rw (c6 .queue .ensures) at (c4 .two-at .ensures .0)), omega arith)
 
 returns : tie.Need-returns Inv-loop μ-loop
 returns c = let e = le-antisymm (c .before .loop .inv .1) (c .loop-test .left) in cc
@@ -33,4 +38,5 @@ returns c = let e = le-antisymm (c .before .loop .inv .1) (c .loop-test .left) i
 pub with-rings-spec : {M : Type 1} → statement M
 with-rings-spec =
     tie.close
-    (tie.spec Inv-loop μ-loop loop-holds (λ c. search needs) (λ c. search needs) (λ c. search needs) (λ c κs. search needs) (λ c. search needs) (λ c. search needs) (λ c κs. search needs) (λ c. search needs) (λ c. search needs) (λ c. search needs) (λ c. search needs) loop-again (λ c. search needs) returns)
+    (tie.spec Inv-loop μ-loop loop-holds (λ c κs. search needs) (λ c. search needs) (λ c κs. search needs) (λ c κs. search needs)
+    (λ c. search needs) (λ c. search needs) (λ c. search needs) (λ c. search needs) loop-again (λ c. search needs) returns)

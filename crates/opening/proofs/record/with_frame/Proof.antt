@@ -1,4 +1,4 @@
--- `opening::record::with_frame` meets its contract: the room is read, and stored one higher. Assumes nothing.
+-- `opening::record::with_frame` meets its contract: the room is read, and stored one higher.
 use Rattle.opening.specs.Opened.{withFrame}
 use borrow.Author.Needs.{needs}
 use Rattle.opening.proofs.record.with_frame.Statement.{statement}
@@ -11,4 +11,5 @@ returns c = cc
 pub with-frame-spec : {M : Type 1} → statement M
 with-frame-spec =
     tie.close
-    (tie.spec (λ c. search needs) (λ c. search needs) (λ c. search needs) (λ c κs. search needs) (λ c. search needs) (λ c κs. search needs) (λ c. search needs) returns)
+    (tie.spec (λ c κs. search needs) (λ c. search needs) (λ c κs. search needs) (λ c. search needs) (λ c κs. search needs)
+    (λ c. search needs) returns)

@@ -1,4 +1,4 @@
--- `opening::record::with_node_row` meets its contract: the count of rows is read first. Assumes nothing.
+-- `opening::record::with_node_row` meets its contract: the count of rows is read first.
 use Rattle.opening.specs.Opened.{withNodeRow}
 use borrow.Author.Needs.{needs}
 use Rattle.opening.proofs.record.with_node_row.Statement.{statement}
@@ -11,4 +11,5 @@ returns c = cc
 pub with-node-row-spec : {M : Type 1} → statement M
 with-node-row-spec =
     tie.close
-    (tie.spec (λ c. search needs) (λ c. search needs) (λ c. search needs) (λ c κs. search needs) (λ c κs. search needs) (λ c. search needs) (λ c. search needs) (λ c. search needs) (λ c. search needs) (λ c κs. search needs) (λ c. search needs) returns)
+    (tie.spec (λ c κs. search needs) (λ c. search needs) (λ c κs. search needs) (λ c κs. search needs) (λ c. search needs)
+    (λ c κs. search needs) (λ c. search needs) returns)

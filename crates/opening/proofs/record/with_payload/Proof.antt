@@ -1,5 +1,4 @@
--- `opening::record::with_payload` meets its contract: eight stores. Assumes nothing.
-use mathlib.Core.Path.{refl}
+-- `opening::record::with_payload` meets its contract: eight stores.
 use native.Mathlib.Omega.{arith}
 use lib.ListN.{length-set}
 use Rattle.opening.specs.Opened.{withPayload}
@@ -30,9 +29,11 @@ slice-write-area-8 c = simp length-set (omega arith)
 
 returns : tie.Need-returns
 unfolding withPayload
-returns c = refl
+returns c = cc
 
 pub with-payload-spec : {M : Type 1} → statement M
 with-payload-spec =
     tie.close
-    (tie.spec (λ c. search needs) (λ c. search needs) (λ c. search needs) (λ c. search needs) slice-write-area-2 (λ c. search needs) slice-write-area-3 (λ c. search needs) slice-write-area-4 (λ c. search needs) slice-write-area-5 (λ c. search needs) slice-write-area-6 (λ c. search needs) slice-write-area-7 (λ c. search needs) slice-write-area-8 (λ c. search needs) returns)
+    (tie.spec (λ c κs. search needs) (λ c. search needs) (λ c. search needs) slice-write-area-2 (λ c. search needs) slice-write-area-3
+    (λ c. search needs) slice-write-area-4 (λ c. search needs) slice-write-area-5 (λ c. search needs) slice-write-area-6 (λ c. search needs)
+    slice-write-area-7 (λ c. search needs) slice-write-area-8 (λ c. search needs) returns)

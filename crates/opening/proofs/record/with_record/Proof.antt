@@ -1,4 +1,6 @@
--- `opening::record::with_record` meets its contract: by the record's kind. Assumes nothing.
+-- `opening::record::with_record` meets its contract: by the record's kind.
+use mathlib.Core.Path.{sym}
+use Rattle.records.proofs.Variants.{no-frame}
 use Rattle.opening.specs.Opened.{withRecord}
 use borrow.Author.Needs.{needs}
 use Rattle.opening.proofs.record.with_record.Statement.{statement}
@@ -22,25 +24,11 @@ returns-4 c = rw (c .before .before .before .before .before .r3 .given .1) (c .b
 
 returns-5 : tie.Need-returns-5
 unfolding withRecord
-returns-5 c = rw (c .enum-told2 .given .1)
-
-returns-6 : tie.Need-returns-6
-unfolding withRecord
-returns-6 c = rw (c .enum-told3 .given .1)
-
-returns-7 : tie.Need-returns-7
-unfolding withRecord
-returns-7 c = rw (c .enum-told4 .given .1)
-
-returns-8 : tie.Need-returns-8
-unfolding withRecord
-returns-8 c = rw (c .enum-told5 .given .1)
-
-returns-9 : tie.Need-returns-9
-unfolding withRecord
-returns-9 c = rw (c .enum-told6 .given .1)
+returns-5 c = sym (no-frame (c .before .before .args .r) (c .match .keys5) _ _ _ _ _)
 
 pub with-record-spec : {M : Type 1} → statement M
 with-record-spec =
     tie.close
-    (tie.spec (λ c. search needs) (λ c. search needs) (λ c. search needs) (λ c. search needs) (λ c κs. search needs) (λ c. search needs) (λ c. search needs) (λ c κs. search needs) (λ c. search needs) (λ c κs. search needs) (λ c. search needs) (λ c. search needs) (λ c. search needs) (λ c. search needs) (λ c. search needs) (λ c. search needs) returns (λ c. search needs) returns-2 (λ c. search needs) returns-3 (λ c. search needs) returns-4 returns-5 returns-6 returns-7 returns-8 returns-9)
+    (tie.spec (λ c. search needs) (λ c. search needs) (λ c. search needs) (λ c. search needs) (λ c κs. search needs) (λ c. search needs) (λ c. search needs)
+    (λ c κs. search needs) (λ c. search needs) (λ c κs. search needs) (λ c. search needs) returns (λ c. search needs) returns-2 (λ c. search needs) returns-3
+    (λ c. search needs) returns-4 returns-5)

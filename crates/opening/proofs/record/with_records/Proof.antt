@@ -1,9 +1,10 @@
--- `opening::record::with_records` meets its contract: at each record the rest of the records gives what the whole plan does. Assumes nothing.
+-- `opening::record::with_records` meets its contract: at each record the rest of the records gives what the whole plan does.
 use mathlib.Core.Path.{_≡_, refl}
 use Prim.Native.Nat.{_≤_, _-_}
 use native.Mathlib.Omega.{arith}
 use lib.ListN.{length}
 use Rattle.records.specs.Records.{recordsAt, records}
+use Rattle.records.proofs.RecordLaws.{goes-on}
 use Rattle.opening.specs.Opened.{withRecords}
 use Rattle.opening.proofs.Turn.{turns, ends}
 use borrow.Author.Needs.{needs}
@@ -11,7 +12,8 @@ use Rattle.opening.proofs.record.with_records.Statement.{statement}
 use Rattle.opening.proofs.record.with_records.Tie as tie
 
 abbrev Inv-loop : tie.InvT-loop
-Inv-loop area₀ plan at₀ area at = (withRecords at (recordsAt plan at) area ≡ withRecords 0 (records plan) area₀) × (at ≤ length plan) × (length area ≡ length area₀)
+Inv-loop area₀ plan at₀ area at =
+    (withRecords at (recordsAt plan at) area ≡ withRecords 0 (records plan) area₀) × (at ≤ length plan) × (length area ≡ length area₀)
 
 abbrev μ-loop : tie.MeasureT-loop
 μ-loop area₀ plan at₀ area at = length plan - at
@@ -20,14 +22,18 @@ loop-holds : tie.Need-loop-holds Inv-loop μ-loop
 unfolding records
 loop-holds c = (refl, omega arith, refl)
 
-add-at : tie.Need-add-at Inv-loop μ-loop
-add-at c = omega (arith, c .before .before .before .before .before .read-record .ensures .1 .room (omega arith))
-
 loop-less : tie.Need-loop-less Inv-loop μ-loop
-loop-less c = omega (arith, c .before .before .before .before .before .read-record .ensures .1 .before (c .before .before .before .before .before .before .loop-test .taken))
+loop-less c =
+    let c4 = c .before .before .before .before in
+    omega (arith, goes-on _ _ (c4 .read-record .ensures) (c4 .before .loop-test .taken) .0)
 
 loop-again : tie.Need-loop-again Inv-loop μ-loop
-loop-again c = (turns _ _ _ _ _ _ _ (c .before .before .before .before .before .before .loop-test .taken) (c .before .before .before .before .before .read-record .ensures .0) (c .size-of .ensures) (c .before .before .before .with-record .ensures) (c .before .before .before .before .before .before .before .loop .inv .0), omega (arith, c .before .before .before .before .before .read-record .ensures .1 .room (omega arith)), cc)
+loop-again c =
+    let c4 = c .before .before .before .before in
+    let c5 = c4 .before in
+    let read = c4 .read-record .ensures in
+    let rest = turns _ _ _ _ _ _ (c5 .loop-test .taken) read (c .before .before .with-record .ensures) in
+    (rest (c5 .before .loop .inv .0), goes-on _ _ read (c5 .loop-test .taken) .1, cc)
 
 returns : tie.Need-returns Inv-loop μ-loop
 returns c = ends _ _ _ _ (omega arith) (c .before .loop .inv .0)
@@ -35,4 +41,4 @@ returns c = ends _ _ _ _ (omega arith) (c .before .loop .inv .0)
 pub with-records-spec : {M : Type 1} → statement M
 with-records-spec =
     tie.close
-    (tie.spec Inv-loop μ-loop loop-holds (λ c κs. search needs) (λ c κs. search needs) (λ c κs. search needs) add-at loop-less loop-again (λ c. search needs) returns)
+    (tie.spec Inv-loop μ-loop loop-holds (λ c κs. search needs) (λ c κs. search needs) loop-less loop-again (λ c. search needs) returns)

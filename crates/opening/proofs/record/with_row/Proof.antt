@@ -1,4 +1,4 @@
--- `opening::record::with_row` meets its contract: three stores. Assumes nothing.
+-- `opening::record::with_row` meets its contract: three stores.
 use Rattle.opening.specs.Opened.{withRow}
 use borrow.Author.Needs.{needs}
 use Rattle.opening.proofs.record.with_row.Statement.{statement}
@@ -11,4 +11,5 @@ returns c = cc
 pub with-row-spec : {M : Type 1} → statement M
 with-row-spec =
     tie.close
-    (tie.spec (λ c. search needs) (λ c. search needs) (λ c κs. search needs) (λ c. search needs) (λ c κs. search needs) (λ c. search needs) (λ c κs. search needs) (λ c. search needs) returns)
+    (tie.spec (λ c κs. search needs) (λ c κs. search needs) (λ c. search needs) (λ c κs. search needs) (λ c. search needs)
+    (λ c κs. search needs) (λ c. search needs) returns)

@@ -1,4 +1,4 @@
--- `opening::record::with_rx_timer` meets its contract: four stores. Assumes nothing.
+-- `opening::record::with_rx_timer` meets its contract: four stores.
 use native.Mathlib.Omega.{arith}
 use lib.ListN.{length-set}
 use Rattle.opening.specs.Opened.{withRxTimer}
@@ -22,4 +22,5 @@ returns c = cc
 pub with-rx-timer-spec : {M : Type 1} → statement M
 with-rx-timer-spec =
     tie.close
-    (tie.spec (λ c κs. search needs) (λ c. search needs) (λ c. search needs) (λ c. search needs) (λ c. search needs) (λ c. search needs) (λ c. search needs) slice-write-area-2 (λ c. search needs) slice-write-area-3 (λ c. search needs) slice-write-area-4 (λ c. search needs) returns)
+    (tie.spec (λ c κs. search needs) (λ c κs. search needs) (λ c κs. search needs) (λ c κs. search needs) (λ c. search needs)
+    (λ c. search needs) slice-write-area-2 slice-write-area-3 slice-write-area-4 (λ c. search needs) returns)

@@ -1,4 +1,4 @@
--- `opening::record::with_tx` meets its contract: the frame's number is read first, and each part is stored by its own function. Assumes nothing.
+-- `opening::record::with_tx` meets its contract: the frame's number is read first, and each part is stored by its own function.
 use Rattle.opening.specs.Opened.{withTx}
 use borrow.Author.Needs.{needs}
 use Rattle.opening.proofs.record.with_tx.Statement.{statement}
@@ -11,4 +11,5 @@ returns c = cc
 pub with-tx-spec : {M : Type 1} → statement M
 with-tx-spec =
     tie.close
-    (tie.spec (λ c κs. search needs) (λ c κs. search needs) (λ c. search needs) (λ c. search needs) (λ c κs. search needs) (λ c κs. search needs) (λ c κs. search needs) (λ c κs. search needs) (λ c. search needs) (λ c κs. search needs) (λ c. search needs) returns)
+    (tie.spec (λ c κs. search needs) (λ c κs. search needs) (λ c κs. search needs) (λ c κs. search needs) (λ c κs. search needs)
+    (λ c κs. search needs) (λ c κs. search needs) (λ c. search needs) (λ c κs. search needs) (λ c. search needs) returns)

@@ -1,4 +1,4 @@
--- `opening::record::with_tx_timer` meets its contract: three stores. Assumes nothing.
+-- `opening::record::with_tx_timer` meets its contract: three stores.
 use native.Mathlib.Omega.{arith}
 use lib.ListN.{length-set}
 use Rattle.opening.specs.Opened.{withTxTimer}
@@ -19,4 +19,5 @@ returns c = cc
 pub with-tx-timer-spec : {M : Type 1} → statement M
 with-tx-timer-spec =
     tie.close
-    (tie.spec (λ c κs. search needs) (λ c. search needs) (λ c. search needs) (λ c. search needs) (λ c. search needs) (λ c. search needs) (λ c. search needs) slice-write-area-2 (λ c. search needs) slice-write-area-3 (λ c. search needs) returns)
+    (tie.spec (λ c κs. search needs) (λ c κs. search needs) (λ c κs. search needs) (λ c. search needs) (λ c. search needs)
+    slice-write-area-2 slice-write-area-3 (λ c. search needs) returns)

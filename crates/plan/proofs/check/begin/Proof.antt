@@ -1,4 +1,4 @@
--- `plan::check::begin` meets its contract: it is the definition. Assumes nothing.
+-- `plan::check::begin` meets its contract: it is the definition.
 use mathlib.Core.Path.{refl}
 use Rattle.plan.specs.Progress.{start}
 use Rattle.plan.proofs.check.begin.Statement.{statement}

@@ -1,4 +1,4 @@
--- `plan::check::end` meets its contract: the tests pick the case. Assumes nothing.
+-- `plan::check::end` meets its contract: the tests pick the case.
 use mathlib.Core.Path.{sym, _∙_}
 use borrow.Author.Tests.{eq-eqb, ne-eqb}
 use Rattle.base.proofs.Picks.{picks, passes}

@@ -1,4 +1,4 @@
--- `plan::tests::is_prescaler` meets its contract: it is the definition. Assumes nothing.
+-- `plan::tests::is_prescaler` meets its contract: it is the definition.
 use mathlib.Core.Path.{refl}
 use Rattle.plan.specs.Tests.{isPrescaler}
 use Rattle.plan.proofs.tests.is_prescaler.Statement.{statement}

@@ -1,4 +1,4 @@
--- `plan::tests::rx_in_range` meets its contract: it is the definition. Assumes nothing.
+-- `plan::tests::rx_in_range` meets its contract: it is the definition.
 use Rattle.plan.specs.Tests.{rxInRange}
 use borrow.Author.Needs.{needs}
 use Rattle.plan.proofs.tests.rx_in_range.Statement.{statement}

@@ -1,4 +1,4 @@
--- `plan::tests::tx_in_range` meets its contract: it is the definition. Assumes nothing.
+-- `plan::tests::tx_in_range` meets its contract: it is the definition.
 use Rattle.plan.specs.Tests.{txInRange}
 use borrow.Author.Needs.{needs}
 use Rattle.plan.proofs.tests.tx_in_range.Statement.{statement}
@@ -6,7 +6,10 @@ use Rattle.plan.proofs.tests.tx_in_range.Tie as tie
 
 returns : tie.Need-returns
 unfolding txInRange
-returns c = rw (c .before .before .before .zero-past .ensures, c .before .before .before .before .before .is-prescaler .ensures, c .before .before .before .before .before .before .wide .ensures .0)
+returns c =
+    let zero = c .before .before .before in
+    let prescaled = zero .before .before in
+    rw (zero .zero-past .ensures, prescaled .is-prescaler .ensures, prescaled .before .wide .ensures .0)
 
 pub tx-in-range-spec : {M : Type 1} → statement M
 tx-in-range-spec =

@@ -1,4 +1,4 @@
--- `plan::tests::zero_past` meets its contract: it is the definition. Assumes nothing.
+-- `plan::tests::zero_past` meets its contract: it is the definition.
 use mathlib.Core.Path.{refl}
 use Rattle.plan.specs.Tests.{zeroPast}
 use Rattle.plan.proofs.tests.zero_past.Statement.{statement}

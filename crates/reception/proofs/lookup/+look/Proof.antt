@@ -1,5 +1,4 @@
 -- `lookup::look` meets its contract: each answer is a case of the search, and the row count falls with each look.
--- Assumes nothing.
 use mathlib.Core.Path.{_≡_, sym, _∙_}
 use Prim.Native.Nat.{ℕ, _<_, _+_, _-_, _*_, _/_}
 use native.Mathlib.Nat.{le-of-eq}
@@ -10,12 +9,12 @@ use denote.Ref.{now}
 use borrow.Author.Needs.{needs}
 use borrow.Fn.Kinds.{In}
 use borrow.Fn.PlainCycle.{Measures, is, falls, and}
-use Rattle.reception.specs.Lookup.{keyAt}
+use Rattle.area.specs.Layout.{rowSize, keyAt}
 use Rattle.reception.proofs.Search.{none, hit, low, high, looked}
 use Rattle.reception.proofs.lookup.look.Reads as look
 use Rattle.reception.proofs.lookup.look.Kinds as look-kinds
 use Rattle.reception.proofs.lookup.+look.Lts-look as look-lts
-use Rattle.reception.proofs.lookup.key_at.Reads as key-at-reads
+use Rattle.area.proofs.rows.key_at.Reads as key-at-reads
 use Rattle.reception.proofs.lookup.+look.{statement}
 use Rattle.reception.proofs.lookup.+look.Tie.{close}
 
@@ -53,7 +52,7 @@ module _ (t : ℕ) where
   above c =
       let v = c .before .before .before .before .before .before .before .args in
       let e = c .before .before .before .before .key-at .ensures .0 in
-      let a = 6 * (v .n / 2) + 6 in
+      let a = rowSize * (v .n / 2) + rowSize in
       let part : take (length (now (v .rows)) - a) (drop a (now (v .rows))) ≡ drop a (now (v .rows)) =
       take-all _ _ (le-of-eq (length-drop a (now (v .rows)))) in
       looked (now (v .rows)) (v .n) (v .first) (v .key)

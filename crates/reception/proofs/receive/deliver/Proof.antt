@@ -1,4 +1,4 @@
--- `receive::deliver` meets its contract: by the payload's length. Assumes nothing.
+-- `receive::deliver` meets its contract: by the payload's length.
 use lib.ListN.{length}
 use borrow.Author.Tests.{lt-ltb, le-ltb}
 use denote.Ref.{now}
@@ -21,10 +21,11 @@ returns c =
 returns-2 : tie.Need-returns-2
 unfolding foundAnswer foundArea pick
 returns-2 c =
-    let v = c .before .before .before .before .before .before .before .before .before .before .args in
-    let size = c .before .before .before .before .before .wide .ensures .0 in
-    let frame = c .before .before .before .before .before .before .rx-frame .ensures in
-    let t = le-ltb (length (now (v .payload))) (rxFrame (now (v .area)) (v .r .0) .size) (rw frame at (rw size at (c .before .before .before .before .if1 .left))) in
+    let c4 = c .before .before .before .before in
+    let v = c4 .before .before .before .before .before .before .args in
+    let size = c4 .before .wide .ensures .0 in
+    let frame = c4 .before .before .rx-frame .ensures in
+    let t = le-ltb (length (now (v .payload))) (rxFrame (now (v .area)) (v .r .0) .size) (rw frame at (rw size at (c4 .if1 .left))) in
     (rw t, rw t (c .before .before .accept .ensures))
 
 pub deliver-spec : {M : Type 1} → statement M

@@ -1,4 +1,4 @@
--- `receive::receive` meets its contract: each answer by what decided it. Assumes nothing.
+-- `receive::receive` meets its contract: each answer by what decided it.
 use mathlib.Core.Path.{refl, sym, _∙_}
 use native.Mathlib.Omega.{arith}
 use borrow.Author.Tests.{not-true, not-false}
@@ -25,7 +25,8 @@ returns-2 c =
     let c4 = c3 .before in
     let c8 = c4 .before .before .before .before in
     let v = c8 .args in
-    no-node (now (v .area)) (v .node) (v .id) (now (v .payload)) (sym (c4 .is-marked .ensures .0) ∙ not-false _ (c3 .if1 .left)) (rw (c .before .node-count .ensures .0) at (c .if2 .taken))
+    no-node (now (v .area)) (v .node) (v .id) (now (v .payload)) (sym (c4 .is-marked .ensures .0) ∙ not-false _ (c3 .if1 .left))
+    (rw (c .before .node-count .ensures .0) at (c .if2 .taken))
 
 returns-3 : tie.Need-returns-3
 returns-3 c =
@@ -84,4 +85,6 @@ returns-5 c =
 pub receive-spec : {M : Type 1} → statement M
 receive-spec =
     tie.close
-    (tie.spec (λ c κs. search needs) (λ c. search needs) returns node-count-requires (λ c. search needs) returns-2 (λ c. search needs) returns-3 look-up-requires (λ c. search needs) (λ c. search needs) (λ c. search needs) returns-4 deliver-requires (λ c. search needs) returns-5)
+    (tie.spec (λ c κs. search needs) (λ c. search needs) returns node-count-requires (λ c. search needs) returns-2 (λ c. search needs)
+    returns-3 look-up-requires (λ c. search needs) (λ c. search needs) (λ c. search needs) returns-4 deliver-requires (λ c. search needs)
+    returns-5)

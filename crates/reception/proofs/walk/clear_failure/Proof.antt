@@ -1,4 +1,4 @@
--- `walk::clear_failure` meets its contract: by whether a failure bit is awaited. Assumes nothing.
+-- `walk::clear_failure` meets its contract: by whether a failure bit is awaited.
 use Rattle.base.specs.Pick.{pick}
 use borrow.Author.Needs.{needs}
 use Rattle.reception.proofs.walk.clear_failure.Statement.{statement}

@@ -1,4 +1,4 @@
--- `walk::pad` meets its contract: the loop pastes the payload over zeros. Assumes nothing.
+-- `walk::pad` meets its contract: the loop pastes the payload over zeros.
 use mathlib.Core.Path.{_≡_}
 use Prim.Native.Nat.{_+_, _-_, _≤_, _<_}
 use native.Mathlib.Nat.{le-antisymm, zero-add}

@@ -1,7 +1,7 @@
--- `records::decode::eight_at` meets its contract: it reads the bytes that the definition names, and the caller keeps them within the plan. Assumes nothing.
+-- `records::decode::eight_at` meets its contract: it reads the bytes that the definition names, and the caller keeps them within the plan.
 use mathlib.Core.Path.{refl}
 use borrow.Author.Needs.{needs}
-use Rattle.records.specs.Records.{eightAt}
+use Rattle.records.specs.Kinds.{eightAt}
 use Rattle.records.proofs.decode.eight_at.Statement.{statement}
 use Rattle.records.proofs.decode.eight_at.Tie as tie
 

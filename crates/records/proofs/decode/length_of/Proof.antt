@@ -1,34 +1,34 @@
--- `records::decode::length_of` meets its contract: at each return the kind is known, and the definition computes. Assumes nothing.
+-- `records::decode::length_of` meets its contract: at each return the kind is known, and the definition computes.
 use native.Mathlib.Omega.{arith}
 use mathlib.Core.Path.{refl}
 use Rattle.base.specs.Pick.{pick}
-use Rattle.records.specs.Records.{lengthOf}
+use Rattle.records.specs.Kinds.{formOf, lengthOf}
 use Rattle.records.proofs.RecordLaws.{no-length}
 use Rattle.records.proofs.decode.length_of.Statement.{statement}
 use Rattle.records.proofs.decode.length_of.Tie as tie
 
 returns : tie.Need-returns
-unfolding lengthOf pick
+unfolding formOf lengthOf pick
 returns c = rw (c .if1 .taken) (refl, omega arith)
 
 returns-2 : tie.Need-returns-2
-unfolding lengthOf pick
+unfolding formOf lengthOf pick
 returns-2 c = rw (c .if2 .taken) (refl, omega arith)
 
 returns-3 : tie.Need-returns-3
-unfolding lengthOf pick
+unfolding formOf lengthOf pick
 returns-3 c = rw (c .if3 .taken) (refl, omega arith)
 
 returns-4 : tie.Need-returns-4
-unfolding lengthOf pick
+unfolding formOf lengthOf pick
 returns-4 c = rw (c .if4 .taken) (refl, omega arith)
 
 returns-5 : tie.Need-returns-5
-unfolding lengthOf pick
+unfolding formOf lengthOf pick
 returns-5 c = rw (c .if5 .taken) (refl, omega arith)
 
 returns-6 : tie.Need-returns-6
-unfolding lengthOf pick
+unfolding formOf lengthOf pick
 returns-6 c = rw (c .if6 .taken) (refl, omega arith)
 
 returns-7 : tie.Need-returns-7

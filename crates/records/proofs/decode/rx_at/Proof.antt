@@ -1,6 +1,6 @@
--- `records::decode::rx_at` meets its contract: each field is the byte, or the bytes, that the definition names. Assumes nothing.
+-- `records::decode::rx_at` meets its contract: each field is the byte, or the bytes, that the definition names.
 use borrow.Author.Needs.{needs}
-use Rattle.records.specs.Records.{rxAt}
+use Rattle.records.specs.Kinds.{rxAt}
 use Rattle.records.proofs.decode.rx_at.Statement.{statement}
 use Rattle.records.proofs.decode.rx_at.Tie as tie
 

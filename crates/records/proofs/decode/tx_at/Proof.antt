@@ -1,12 +1,16 @@
--- `records::decode::tx_at` meets its contract: each field is the byte, or the bytes, that the definition names. Assumes nothing.
+-- `records::decode::tx_at` meets its contract: each field is the byte, or the bytes, that the definition names.
 use borrow.Author.Needs.{needs}
-use Rattle.records.specs.Records.{txAt}
+use Rattle.records.specs.Kinds.{txAt}
 use Rattle.records.proofs.decode.tx_at.Statement.{statement}
 use Rattle.records.proofs.decode.tx_at.Tie as tie
 
 returns : tie.Need-returns
 unfolding txAt
-returns c = rw (c .before .before .before .before .before .before .before .two-at .ensures .0, c .before .before .before .before .before .before .eight-at .ensures)
+returns c = rw (
+  c .before .before .before .before .before .before .before .two-at .ensures .0,
+  c .before .before .before .before .before .before
+      .eight-at .ensures,
+)
 
 pub tx-at-spec : {M : Type 1} → statement M
 tx-at-spec =

@@ -1,4 +1,4 @@
--- `ticking::tick::run` meets its contract: Tx timers, Rx timers and the counter, in this order. Assumes nothing.
+-- `ticking::tick::run` meets its contract: Tx timers, Rx timers and the counter, in this order.
 use mathlib.Core.Path.{_∙_}
 use lib.ListN.{length-set}
 use Rattle.ticking.specs.Tick.{ticked}
@@ -7,7 +7,9 @@ use Rattle.ticking.proofs.tick.run.Statement.{statement}
 use Rattle.ticking.proofs.tick.run.Tie as tie
 
 same-length : tie.Need-same-length
-same-length c = simp length-set (c .before .before .before .before .before .rx-ticks .kept .0 ∙ c .before .before .before .before .before .before .before .before .before .before .tx-ticks .kept .0)
+same-length c =
+    let c5 = c .before .before .before .before .before in
+    simp length-set (c5 .rx-ticks .kept .0 ∙ c5 .before .before .before .before .before .tx-ticks .kept .0)
 
 returns : tie.Need-returns
 unfolding ticked
@@ -16,4 +18,5 @@ returns c = (cc, cc)
 pub run-spec : {M : Type 1} → statement M
 run-spec =
     tie.close
-    (tie.spec (λ c. search needs) (λ c κs. search needs) (λ c κs. search needs) (λ c κs. search needs) (λ c κs. search needs) (λ c κs. search needs) (λ c. search needs) same-length (λ c. search needs) returns)
+    (tie.spec (λ c. search needs) (λ c κs. search needs) (λ c κs. search needs) (λ c κs. search needs) (λ c κs. search needs)
+    (λ c κs. search needs) (λ c. search needs) same-length (λ c. search needs) returns)

@@ -1,4 +1,4 @@
--- `ticking::tick::tick` meets its contract: by the mark, and by the report's length. Assumes nothing.
+-- `ticking::tick::tick` meets its contract: by the mark, and by the report's length.
 use mathlib.Core.Path.{refl}
 use borrow.Author.Tests.{lt-leb, le-leb}
 use Rattle.base.specs.Pick.{pick}
@@ -31,8 +31,10 @@ returns-2 c =
     let c7 = c4 .before .before .before in
     let c8 = c7 .before in
     let c10 = c8 .before .before in
-    let c11 = c10 .before in
-    (simp (← (c11 .is-marked .ensures .0), c10 .if1 .taken, le-leb _ _ (rw (c8 .rx-count .ensures .0) at (c7 .if2 .left))), (c4 .run .ensures .0, c4 .run .ensures .1))
+    let c11 = c10 .before in (
+      simp (← (c11 .is-marked .ensures .0), c10 .if1 .taken, le-leb _ _ (rw (c8 .rx-count .ensures .0) at (c7 .if2 .left))),
+      (c4 .run .ensures .0, c4 .run .ensures .1),
+    )
 
 returns-3 : tie.Need-returns-3
 unfolding tickAnswer tickedArea tickedReport pick
@@ -41,4 +43,5 @@ returns-3 c = (simp (← (c .before .is-marked .ensures .0), c .if1 .left), (ref
 pub tick-spec : {M : Type 1} → statement M
 tick-spec =
     tie.close
-    (tie.spec (λ c κs. search needs) rx-count-requires (λ c. search needs) returns run-requires (λ c. search needs) (λ c. search needs) returns-2 (λ c. search needs) returns-3)
+    (tie.spec (λ c κs. search needs) rx-count-requires (λ c. search needs) returns run-requires (λ c. search needs) (λ c. search needs)
+    returns-2 (λ c. search needs) returns-3)

@@ -1,4 +1,4 @@
--- `area::queue::Ends::add` meets its contract: one more waits, and the rest stays. Assumes nothing.
+-- `area::queue::Ends::add` meets its contract: one more waits, and the rest stays.
 use mathlib.Core.Path.{refl}
 use borrow.Author.Needs.{needs}
 use Rattle.area.specs.Queue.{added}

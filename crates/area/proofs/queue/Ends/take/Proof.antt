@@ -1,4 +1,4 @@
--- `area::queue::Ends::take` meets its contract: the ring's next place, and one fewer. Assumes nothing.
+-- `area::queue::Ends::take` meets its contract: the ring's next place, and one fewer.
 use mathlib.Core.Path.{refl}
 use borrow.Author.Needs.{needs}
 use Rattle.area.specs.Queue.{removed}

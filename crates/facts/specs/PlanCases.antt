@@ -1,0 +1,98 @@
+-- Small plans with the verdict of each: every refusal number, document 01's cases 10, 11 and 12, and the plan of its listing.
+use mathlib.Core.Path.{_≡_}
+use mathlib.Core.List.{List, [], _∷_, _++_}
+use Prim.Native.Nat.{ℕ}
+use Rattle.plan.specs.declared.verdict.Reason.the-variants.{Short, Kind, Place, Count, Range, Order, Data, Owner, Indicator}
+use Rattle.plan.specs.declared.verdict.Verdict.{Verdict}
+use Rattle.plan.specs.declared.verdict.Verdict.the-variants.{Good, Refused}
+use Rattle.plan.specs.Check.{checkPlan}
+
+pub record PlanCase : Type 0 where
+  pub plan : List ℕ
+  pub verdict : Verdict
+
+-- ---- the bytes of records, with what the cases vary
+
+abbrev pub head : List ℕ
+head = 0x01 ∷ 0x00 ∷ []
+
+abbrev pub node : List ℕ
+node = 0x02 ∷ 0x00 ∷ []
+
+-- a Tx frame on node 0, ID 0100
+abbrev pub tx : ℕ → List ℕ
+tx size = 0x03 ∷ 0x00 ∷ 0x01 ∷ 0x00 ∷ size ∷ 0x01 ∷ 0x03 ∷ 0x03 ∷ 0x02 ∷ 0x00 ∷ 0x00 ∷ 0x00 ∷ 0x00 ∷ 0x00 ∷ 0x00 ∷ 0x00 ∷ 0x00 ∷ []
+
+-- an Rx frame: node, the two bytes of its ID, size, failure enable and failure position
+abbrev pub rx : ℕ → ℕ → ℕ → ℕ → ℕ → ℕ → List ℕ
+rx on high low size enable position = 0x04 ∷ on ∷ high ∷ low ∷ size ∷ 0x01 ∷ 0x02 ∷ 0x02 ∷ enable ∷ position ∷ 0x02 ∷ []
+
+abbrev pub signal : ℕ → ℕ → List ℕ
+signal position size = 0x05 ∷ position ∷ size ∷ []
+
+abbrev pub destination : ℕ → ℕ → List ℕ
+destination number position = 0x06 ∷ 0x00 ∷ number ∷ position ∷ []
+
+-- a head, a node, a Tx frame of two bytes, and an Rx frame of one byte with no failure bit, or with one at a position
+abbrev pub plain : List ℕ
+plain = head ++ node ++ tx 2 ++ rx 0 0x00 0x20 1 0 0
+
+abbrev pub failing : ℕ → List ℕ
+failing position = head ++ node ++ tx 2 ++ rx 0 0x00 0x20 1 1 position
+
+-- "Plan, 39 bytes", as it stands
+abbrev pub listing : List ℕ
+listing =
+    0x01 ∷ 0x00 ∷ 0x02 ∷ 0x00 ∷ 0x03 ∷ 0x00 ∷ 0x01 ∷ 0x00 ∷ 0x02 ∷ 0x01 ∷ 0x03 ∷ 0x03 ∷ 0x02
+    ∷ 0x00 ∷ 0x00 ∷ 0x00 ∷ 0x00 ∷ 0x00 ∷ 0x00 ∷ 0x00 ∷ 0x00
+    ∷ 0x04 ∷ 0x00 ∷ 0x00 ∷ 0x20 ∷ 0x01 ∷ 0x01 ∷ 0x02 ∷ 0x02 ∷ 0x01 ∷ 0x0F ∷ 0x02 ∷ 0x05 ∷ 0x02 ∷ 0x04 ∷ 0x06 ∷ 0x00 ∷ 0x00 ∷ 0x06 ∷ []
+
+-- ---- the cases
+
+abbrev pub planCases : List PlanCase
+planCases =
+    -- 1: the input is empty (case 12), or the record runs past its end
+    record { plan = []; verdict = Refused Short 0 }
+    ∷ record { plan = head ++ 0x02 ∷ []; verdict = Refused Short 1 }
+    -- 2: the kind is not 1 to 6
+    ∷ record { plan = head ++ 0x07 ∷ []; verdict = Refused Kind 1 }
+    -- 3: the kind may not stand here
+    ∷ record { plan = node; verdict = Refused Place 0 }
+    ∷ record { plan = head ++ head; verdict = Refused Place 1 }
+    -- 4: seventeen nodes
+    ∷ record {
+      plan = head ++ node ++ node ++ node ++ node ++ node ++ node ++ node ++ node ++ node ++ node ++ node ++ node ++ node ++ node ++ node ++ node ++ node;
+      verdict = Refused Count 17;
+    }
+    -- 5: an order of 2; a node that there is not
+    ∷ record { plan = 0x01 ∷ 0x02 ∷ []; verdict = Refused Range 0 }
+    ∷ record { plan = head ++ node ++ rx 1 0x00 0x20 1 0 0; verdict = Refused Range 2 }
+    -- 6: a row twice (case 11)
+    ∷ record { plan = head ++ node ++ rx 0 0x00 0x20 1 0 0 ++ rx 0 0x00 0x20 1 0 0; verdict = Refused Order 3 }
+    -- 7: a signal passes its frame's data; a destination does; the Tx frame does not exist
+    ∷ record { plan = plain ++ signal 5 4; verdict = Refused Data 4 }
+    ∷ record { plan = plain ++ signal 2 4 ++ destination 0 13; verdict = Refused Data 5 }
+    ∷ record { plan = plain ++ signal 2 4 ++ destination 1 0; verdict = Refused Data 5 }
+    -- 8: a destination's bit has an owner; a failure bit's has
+    ∷ record { plan = plain ++ signal 2 4 ++ destination 0 6 ++ destination 0 9; verdict = Refused Owner 6 }
+    ∷ record { plan = failing 9 ++ signal 2 4 ++ destination 0 6; verdict = Refused Owner 5 }
+    -- 9: the end, or another record, in place of the signal; in place of the destination; the position passes the Tx data
+    ∷ record { plan = failing 15; verdict = Refused Indicator 3 }
+    ∷ record { plan = failing 15 ++ rx 0 0x00 0x21 1 0 0; verdict = Refused Indicator 3 }
+    ∷ record { plan = failing 15 ++ signal 2 4; verdict = Refused Indicator 3 }
+    ∷ record { plan = failing 15 ++ signal 2 4 ++ signal 2 4; verdict = Refused Indicator 3 }
+    ∷ record { plan = failing 16 ++ signal 2 4 ++ destination 0 6; verdict = Refused Indicator 5 }
+    -- case 10: position 60 in 8 bytes: size 4 fits, 5 is refusal 7
+    ∷ record { plan = head ++ node ++ rx 0 0x00 0x20 8 0 0 ++ signal 60 4; verdict = Good 1 0 1 }
+    ∷ record { plan = head ++ node ++ rx 0 0x00 0x20 8 0 0 ++ signal 60 5; verdict = Refused Data 3 }
+    -- case 11: rows (0, 7FF) then (1, 000) are good
+    ∷ record { plan = head ++ node ++ node ++ rx 0 0x07 0xFF 8 0 0 ++ rx 1 0x00 0x00 8 0 0; verdict = Good 2 0 2 }
+    -- case 12: a head alone is good
+    ∷ record { plan = head; verdict = Good 0 0 0 }
+    -- the plan of the listing
+    ∷ record { plan = listing; verdict = Good 1 1 1 }
+    ∷ []
+
+abbrev pub VerdictsHold : List PlanCase → Type 0
+VerdictsHold [] = Unit {0}
+VerdictsHold (c ∷ cs) = (checkPlan (c .plan) ≡ c .verdict) × VerdictsHold cs

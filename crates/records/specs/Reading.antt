@@ -1,0 +1,20 @@
+-- "The plan is read through a struct of plan slice and cursor": a reader gives the record that it stands on, and goes on behind it.
+use Prim.Native.Nat.{ℕ, _+_}
+use mathlib.Core.List.{List}
+use denote.Ref.{now}
+use Rattle.records.specs.declared.decode.Step.{Step}
+use Rattle.records.specs.declared.reader.Reader.{Reader}
+use Rattle.records.specs.declared.reader.Read.{Read}
+use Rattle.records.specs.Records.{recordAt, sizeOf}
+
+-- the record at a place of a plan, and the place behind it
+abbrev pub stepAt : List ℕ → ℕ → Step
+stepAt plan at = record { found = recordAt plan at; next = at + sizeOf (recordAt plan at) }
+
+-- the reader behind the record that it stands on
+abbrev pub goneOn : Reader → Reader
+goneOn r = record { plan = r .plan; at = stepAt (now (r .plan)) (r .at) .next }
+
+-- that record, and the reader behind it
+abbrev pub readOn : Reader → Read
+readOn r = record { found = recordAt (now (r .plan)) (r .at); rest = goneOn r }

@@ -1,0 +1,55 @@
+#!/usr/bin/env bash
+# tools/bench, as one types: what it cannot read is told with its line, a refusal with what to mend, and each end has its status.
+# The second program answers here, being quick to start; tests/examples.sh has the proved one.
+set -u
+fail() { echo "$1"; exit 1; }
+CARGO_TARGET_DIR=$PWD/target/cargo cargo build --offline --quiet --manifest-path second/program/Cargo.toml || exit 1
+export BENCH=target/cargo/debug/second
+python3 tests/causes.py "$BENCH" || exit 1
+python3 tests/typed.py || exit 1
+there=$(mktemp -d) || exit 1
+trap 'rm -rf "$there"' EXIT
+good=$there/good.txt
+printf '0100\nevents\n12 00\n' >"$good"
+
+# ends STATUS COMMAND ..: the command ends with this status, and tells at most one line on standard error: no traceback.
+ends() {
+    local status=$1 got
+    shift
+    "$@" >"$there/shown" 2>"$there/told"; got=$?
+    [ "$got" -eq "$status" ] || fail "$*: ended with $got, not $status: $(cat "$there/told")"
+    [ "$(wc -l <"$there/told")" -le 1 ] || fail "$*: told more than one line: $(cat "$there/told")"
+}
+
+# The files and words of the command.
+ends 2 tools/bench "$there/none.txt"
+[ "$(cat "$there/told")" = "tools/bench: $there/none.txt: No such file or directory" ] || fail "no file: $(cat "$there/told")"
+for words in '' '--no-such' "--raw --hex $good"; do
+    tools/bench $words >/dev/null 2>"$there/told"; [ $? -eq 2 ] || fail "tools/bench $words: not ended with 2"
+done
+
+# Terminals that have ASCII alone.
+printf '# na\303\257ve\n0100\nevents\n' >"$there/comment.txt"
+printf '0\303\257\nevents\n' >"$there/word.txt"
+export PYTHONIOENCODING=ascii LC_ALL=C
+ends 0 tools/bench "$there/comment.txt"
+grep -qF '# na\xefve' "$there/shown" || fail "on an ASCII terminal: $(head -n 1 "$there/shown")"
+ends 1 tools/bench "$there/word.txt"
+grep -qF "'0\xef' is not hex" "$there/told" || fail "on an ASCII terminal: $(cat "$there/told")"
+ends 2 tools/bench "$there/$(printf '\303\257').txt"
+unset PYTHONIOENCODING LC_ALL
+
+# No end of input, no room for output.
+ends 1 tools/bench /dev/zero
+tools/bench "$good" >/dev/full 2>"$there/told"; [ $? -eq 1 ] || fail "a full disk: not ended with 1"
+[ "$(cat "$there/told")" = 'tools/bench: standard output: No space left on device' ] || fail "a full disk: $(cat "$there/told")"
+
+# A reader that leaves early, and Ctrl-C: no traceback.
+{ printf '0100\nevents\n'; printf '1200\n%.0s' {1..20000}; } >"$there/long.txt"
+for option in '' --raw --hex; do
+    tools/bench $option "$there/long.txt" 2>"$there/told" | head -n 1 | head -c 10 >/dev/null
+    [ ! -s "$there/told" ] || fail "tools/bench $option | head: $(cat "$there/told")"
+done
+BENCH='sleep 20' ends 130 timeout --foreground --preserve-status -s INT 1 tools/bench "$good"
+[ "$(cat "$there/told")" = 'tools/bench: stopped' ] || fail "Ctrl-C: $(cat "$there/told")"
+echo "ok"

@@ -1,0 +1,122 @@
+"""What tools/bench says of a refused plan names what is to be mended. Argument: a bench program.
+
+Each line of CAUSES is a plan, its refusal and the words. Then every byte of two good plans is changed and every end cut off: the program decides
+what is refused, and for each refusal words must be there.
+"""
+import subprocess
+import sys
+
+sys.dont_write_bytecode = True
+sys.path.insert(0, 'tools')
+from view.refused import cause
+from view.typed import read_text
+
+HEAD, NODE = '0100 ', '0200 '
+TX = '03 00 0100 02 01 03 03 02 0000000000000000 '       # two bytes
+RX = '04 00 0020 01 01 02 02 00 00 02 '                  # one byte, no failure bit
+RX_FAILURE = '04 00 0020 01 01 02 02 01 0f 02 '          # failure bit 15
+SIGNAL, DESTINATION = '05 02 04 ', '06 0000 06 '         # bits 2 to 5, to bits 6 to 9
+GOOD = HEAD + NODE + TX
+
+
+def rx(number):
+    return f'04 00 {number:04x} 08 01 02 02 00 00 02 '
+
+
+def destinations(total):
+    """A plan's records with so many destinations of one bit, none of them twice: 15 for a signal, 60 signals in an Rx frame."""
+    plan = [HEAD, NODE, *[TX.replace(' 02 01 ', ' 08 01 ')] * (total // 64 + 1)]
+    for number in range(total):
+        plan += [rx(number // 900)] * (number % 900 == 0) + ['05 00 01 '] * (number % 15 == 0) + [f'06 {number // 64:04x} {number % 64:02x} ']
+    return plan
+
+
+TOO_MANY = destinations(2049)
+CAUSES = [
+    ('', 1, 0, 'the plan is empty; the least is a head, 01 00'),
+    (HEAD + '02', 1, 1, 'a node has 2 bytes: kind, type; here is 1'),
+    (HEAD + NODE + TX[:-3], 1, 2,
+     'a Tx frame has 17 bytes: kind, node, ID (2), size, prescaler, reload, initial timer, flags, initial payload (8); here are 16'),
+    (HEAD + '07', 2, 1, '07 is no kind: it is 01 (a head), 02 (a node), 03 (a Tx frame), 04 (an Rx frame), 05 (a signal) or 06 (a destination)'),
+    (HEAD + '11', 2, 1, '11 is no kind: it is 01 (a head), 02 (a node), 03 (a Tx frame), 04 (an Rx frame), 05 (a signal) or 06 (a destination); '
+                        "events stand after a line 'events'"),
+    (NODE, 3, 0, 'here stands a node; a plan begins with a head'),
+    (HEAD + HEAD, 3, 1, 'here stands a head; after a head comes a node, a Tx frame or an Rx frame'),
+    (GOOD + NODE, 3, 3, 'here stands a node; after a Tx frame comes a Tx frame or an Rx frame'),
+    (GOOD + RX + DESTINATION, 3, 4, 'here stands a destination; after an Rx frame comes an Rx frame or a signal'),
+    (GOOD + RX + SIGNAL + TX, 3, 5, 'here stands a Tx frame; after a signal comes an Rx frame, a signal or a destination'),
+    (HEAD + 17 * NODE, 4, 17, 'this would make 17 nodes, and at most 16 are lawful'),
+    (HEAD + NODE + 257 * TX, 4, 258, 'this would make 257 Tx frames, and at most 256 are lawful'),
+    (HEAD + NODE + ''.join(map(rx, range(257))), 4, 258, 'this would make 257 Rx frames, and at most 256 are lawful'),
+    (GOOD + RX + 65 * SIGNAL, 4, 68, 'this would make 65 signals of Rx frame 0, and at most 64 are lawful'),
+    (HEAD + NODE + ''.join(rx(n) + 64 * SIGNAL for n in range(16)) + rx(16) + SIGNAL, 4, 1043,
+     'this would make 1,025 signals, and at most 1,024 are lawful'),
+    (GOOD + '04 00 0020 08 01 02 02 00 00 02 05 00 01 ' + ''.join(f'06 0000 {n:02x} ' for n in range(16)), 4, 20,
+     'this would make 16 destinations of this signal, and at most 15 are lawful'),
+    (''.join(TOO_MANY), 4, len(TOO_MANY) - 1, 'this would make 2,049 destinations, and at most 2,048 are lawful'),
+    ('0102', 5, 0, 'order is hex 02, and its range is hex 00 (big) or 01 (little)'),
+    (HEAD + '0201', 5, 1, 'type is hex 01, and its range is hex 00 (CAN)'),
+    (HEAD + TX, 5, 1, 'node is hex 00, and there is no node'),
+    (HEAD + NODE + '03 01' + TX[5:], 5, 2, 'node is hex 01, and there is node 0 alone'),
+    (HEAD + NODE * 3 + '03 03' + TX[5:], 5, 4, 'node is hex 03, and there are nodes 0 to 2'),
+    (HEAD + NODE + TX.replace('0100', '0800'), 5, 2, 'ID is hex 0800 (2048), and its range is hex 0000 to 07ff'),
+    (HEAD + NODE + TX.replace(' 02 01 ', ' 09 01 '), 5, 2, 'size is hex 09, and its range is hex 00 to 08'),
+    (HEAD + NODE + TX.replace(' 02 01 ', ' 02 10 '), 5, 2, 'prescaler is hex 10 (16), and its range is hex 01, 02, 0a or 14 (1, 2, 10 or 20)'),
+    (HEAD + NODE + TX.replace('03 02', '03 04'), 5, 2, 'flags is hex 04, and its range is hex 00 to 03'),
+    (HEAD + NODE + TX.replace('000000 ', '000100 '), 5, 2, 'initial payload is hex 0000000000000100, and past the size, 2 bytes, it must be zero'),
+    (HEAD + NODE + RX.replace('00 00 02', '02 40 10'), 5, 2, 'failure enable is hex 02, and its range is hex 00 or 01; '
+     'failure position is hex 40 (64), and its range is hex 00 to 3f (0 to 63); long count is hex 10 (16), and its range is hex 00 to 0f (0 to 15)'),
+    (GOOD + RX + '05 40 00', 5, 4,
+     'position is hex 40 (64), and its range is hex 00 to 3f (0 to 63); signal size is hex 00, and its range is hex 01 to 40 (1 to 64)'),
+    (GOOD + RX + SIGNAL + '06 0000 40', 5, 5, 'position is hex 40 (64), and its range is hex 00 to 3f (0 to 63)'),
+    (GOOD + RX + RX, 6, 4, 'node 0, ID 0x020 is the row of Rx frame 0, record 3; Rx frames stand in rising order of node, then of ID'),
+    (GOOD + RX + RX.replace('0020', '001f'), 6, 4,
+     'node 0, ID 0x01f is not above node 0, ID 0x020 of Rx frame 0, record 3; Rx frames stand in rising order of node, then of ID'),
+    (GOOD + RX + '05 05 04', 7, 4, 'bits 5 to 8 would pass the data of Rx frame 0, 1 byte: bits 0 to 7'),
+    (GOOD + RX + SIGNAL + '06 0001 06', 7, 5, 'it names Tx frame 1, and there is Tx frame 0 alone'),
+    (GOOD + RX + SIGNAL + '06 0000 0d', 7, 5, 'bits 13 to 16 would pass the data of Tx frame 0, 2 bytes: bits 0 to 15'),
+    (GOOD + RX.replace('20 01', '20 00') + SIGNAL, 7, 4, 'bits 2 to 5 would pass the data of Rx frame 0, 0 bytes: no bits'),
+    (GOOD + RX + SIGNAL + DESTINATION + '06 0000 09', 8, 6,
+     'this destination would have bit 9 of Tx frame 0, which the destination at record 5 (bits 6 to 9) has already'),
+    (GOOD + RX + SIGNAL + DESTINATION + '06 0000 0a 06 0000 08', 8, 7,
+     'this destination would have bits 8 to 9 of Tx frame 0, which the destination at record 5 (bits 6 to 9) has already; '
+     'and bits 10 to 11 of Tx frame 0, which the destination at record 6 (bits 10 to 13) has already'),
+    (GOOD + RX_FAILURE + SIGNAL + DESTINATION + '06 0000 0c', 8, 6,
+     'this destination would have bit 15 of Tx frame 0, which the failure bit of Rx frame 0 (record 3) has already'),
+    (GOOD + RX_FAILURE + SIGNAL + '06 0000 0c', 8, 5,
+     'the failure bit of Rx frame 0 (record 3) would have bit 15 of Tx frame 0, which this destination has already'),
+    (GOOD + RX_FAILURE, 9, 3, 'its failure enable is 01, and after it comes the end of the plan; '
+                              'a signal and a destination must follow at once, or failure enable be 00'),
+    (GOOD + RX_FAILURE + SIGNAL + SIGNAL, 9, 3, 'its failure enable is 01, and after it comes a signal and a signal; '
+                                                'a signal and a destination must follow at once, or failure enable be 00'),
+    (GOOD + RX_FAILURE.replace('0f 02', '10 02') + SIGNAL + DESTINATION, 9, 5,
+     'the failure bit of Rx frame 0 (record 3) is bit 16, which passes the data of Tx frame 0, 2 bytes: bits 0 to 15'),
+]
+
+
+def refusal(plan):
+    """The number and the record with which the program refuses a plan, or nothing."""
+    said = subprocess.run([sys.argv[1]], input=len(plan).to_bytes(2, 'big') + plan, capture_output=True, check=True).stdout.split()
+    return (int(said[2]), int(said[3])) if said[1] == b'refused' else None
+
+
+for typed, number, at, words in CAUSES:
+    plan = bytes.fromhex(typed)
+    if refusal(plan) != (number, at):
+        sys.exit(f'{typed[-60:]}: {refusal(plan)}, not refused {number} at {at}')
+    if cause(plan, number, at) != words:
+        sys.exit(f'refusal {number}: {cause(plan, number, at)!r}, not {words!r}')
+if {row[1] for row in CAUSES} != set(range(1, 10)):
+    sys.exit('not every refusal of a plan is there')
+
+met = 0
+for example in ('examples/ship.txt', 'examples/listing.txt'):
+    with open(example, encoding='utf-8') as text:
+        good = bytes(read_text(text.read())[0].data)
+    changed = [good[:place] + bytes([byte]) + good[place + 1:] for place in range(len(good)) for byte in (0, 2, 5, 0x41, 0xff)]
+    for plan in changed + [good[:end] for end in range(len(good))]:
+        found = refusal(plan)
+        met += found is not None
+        if found and not cause(plan, *found):
+            sys.exit(f'no words for refusal {found} of {plan.hex(" ")}')
+print(f'{len(CAUSES)} causes in words, and words for each of {met} refusals')

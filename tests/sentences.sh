@@ -1,0 +1,46 @@
+#!/usr/bin/env bash
+# Sentences and cases of document 01 one by one, on the proved bench program: those that no other test runs by itself.
+set -u -o pipefail
+# says SENTENCE PLAN EVENTS LINES: the program writes these lines, given with / between them.
+says() {
+    local got
+    got=$(printf '%s\nevents\n%s\n' "$2" "$3" | tools/bench --raw - | paste -sd/) || { echo "$1: no answer"; exit 1; }
+    [ "$got" = "$4" ] || { echo "$1: '$got', and not '$4'"; exit 1; }
+    tried=$((tried + 1))
+}
+tried=0
+head='01 00'; node='02 00'
+none='0000000000000000'
+
+says 'case 10: size 4 fits' "$head $node 04 00 0020 08 01 02 02 00 00 02 05 3c 04" '' 'plan ok 1 0 1'
+says 'case 10: size 5 is refusal 7' "$head $node 04 00 0020 08 01 02 02 00 00 02 05 3c 05" '' 'plan refused 7 3'
+says 'case 11: rows (0, 7FF) then (1, 000)' "$head $node $node 04 00 07ff 08 01 02 02 00 00 02 04 01 0000 08 01 02 02 00 00 02" '' 'plan ok 2 0 2'
+says 'case 11: a row twice' "$head $node 04 00 0020 01 01 02 02 00 00 02 04 00 0020 01 01 02 02 00 00 02" '' 'plan refused 6 3'
+says 'case 12: empty plan' '' '' 'plan refused 1 0'
+says 'case 12: head alone' "$head" '' 'plan ok 0 0 0'
+
+# Tx frame 0 of two bytes, sent on reception; Rx frame 0 of one byte, whose timer stands still
+tx="03 00 0100 02 01 00 00 01 $none"
+rx='04 00 0020 01 01 00 00 00 00 00'
+got='10 00 0020 01 2c00000000000000'
+says 'signals may overlap in the source frame' "$head $node $tx $rx 05 00 08 06 0000 00 05 04 04 06 0000 08" "$got 12 00" \
+    'plan ok 1 1 1/rx 0/take 0 256 2 2cc0 0'
+says 'bytes past the size are ignored' "$head $node $tx $rx 05 00 08 06 0000 00" '10 00 0020 08 2cffffffffffffff 12 00' \
+    'plan ok 1 1 1/rx 0/take 0 256 2 2c00 0'
+says 'the payload is that of the take' "$head $node $tx $rx 05 00 08 06 0000 00" "$got 10 00 0020 01 3d00000000000000 12 00" \
+    'plan ok 1 1 1/rx 0/rx 0/take 0 256 2 3d00 0'
+says 'destinations in plan order' "$head $node $tx 03 00 0101 02 01 00 00 01 $none $rx 05 00 08 06 0001 00 06 0000 00" "$got 12 00 12 00" \
+    'plan ok 1 2 1/rx 0/take 1 257 2 2c00 1/take 0 256 2 2c00 0'
+says 'a zero timer stands still' "$head $node $tx $rx 05 00 08 06 0000 00" '11 11 11 12 00' 'plan ok 1 1 1/tick 0/tick 0/tick 0/take none'
+says 'a zero long count is no long timeout' "$head $node 04 00 0020 01 01 01 01 00 00 00" '11 11 11' 'plan ok 1 0 1/tick 1/tick 1/tick 1'
+says 'the Rx timer takes its reload value' "$head $node 04 00 0020 01 01 02 02 00 00 00" "11 $got 11 $got 11 11" \
+    'plan ok 1 0 1/tick 0/rx 0/tick 0/rx 0/tick 0/tick 1'
+says 'the long counter moves at expiries only' "$head $node 04 00 0020 01 01 01 01 00 00 02" "11 $got 11" 'plan ok 1 0 1/tick 1/rx 0/tick 2'
+
+# the same Tx frame on a period of three ticks
+tx="03 00 0100 02 01 03 03 01 $none"
+says 'scheduling loads the Tx timer' "$head $node $tx $rx 05 00 08 06 0000 00" "11 11 $got 12 00 11 11 12 00 11 12 00" \
+    'plan ok 1 1 1/tick 0/tick 0/rx 0/take 0 256 2 2c00 0/tick 0/tick 0/take none/tick 0/take 0 256 2 2c00 0'
+says 'a waiting frame is not loaded again' "$head $node $tx $rx 05 00 08 06 0000 00" "$got 11 11 $got 12 00 11 12 00" \
+    'plan ok 1 1 1/rx 0/tick 0/tick 0/rx 0/take 0 256 2 2c00 0/tick 0/take 0 256 2 2c00 0'
+echo "$tried sentences and cases, all as they say"

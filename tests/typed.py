@@ -1,0 +1,129 @@
+"""tools/bench on typed texts, right and wrong, and with other programs: each ends with its status and says what it must. BENCH names the program
+that answers. The tool is loaded once and run for each text, which is quicker than to start it.
+"""
+import contextlib
+import importlib.machinery
+import importlib.util
+import io
+import os
+import sys
+import tempfile
+
+sys.dont_write_bytecode = True
+sys.path.insert(0, 'tools')
+loader = importlib.machinery.SourceFileLoader('bench', 'tools/bench')
+bench = importlib.util.module_from_spec(importlib.util.spec_from_loader('bench', loader))
+loader.exec_module(bench)
+
+
+def run(text, *options, program=os.environ['BENCH']):
+    """The status, what is shown with its spaces and line ends made one, and what is told."""
+    shown, told = (io.TextIOWrapper(io.BytesIO(), 'utf-8') for _ in range(2))
+    os.environ['BENCH'] = program
+    with tempfile.NamedTemporaryFile() as file, contextlib.redirect_stdout(shown), contextlib.redirect_stderr(told):
+        file.write(text.encode())
+        file.flush()
+        sys.argv = ['tools/bench', *options, file.name]
+        status = bench.told()
+    for stream in (shown, told):
+        stream.seek(0)
+    view = shown.read()
+    if '--hex' not in options and max(map(len, view.split('\n'))) > 120:
+        sys.exit(f'{text[:60]!r}: the view is wider than 120 columns')
+    return status, ' '.join(view.split()), told.read().replace(file.name, 'FILE')
+
+
+COMMENT = 'is not hex: a comment begins with #'
+EVENTS = 'is not hex: one line between plan and events says events, in small letters and nothing else'
+MISSING = "the text ends, and no line 'events' parts the plan from the events; write one, also where no event follows"
+EARLY = 'and the line ends; a byte is missing, or one too many stands before'
+RECEPTION = 'a reception has 13 bytes: kind, node, ID (2), length, data (8) whatever the length'
+TX = 'a Tx frame has 17 bytes: kind, node, ID (2), size, prescaler, reload, initial timer, flags, initial payload (8)'
+RX = ('an Rx frame has 11 bytes: kind, node, ID (2), size, prescaler, reload, initial timer, failure enable, failure position, '
+      'long count')
+EVENT_KINDS = 'it is 10 (a reception), 11 (a tick) or 12 (a take)'
+
+# Texts that cannot be read: what is told, on one line. Nothing is shown, and the end is 1.
+for text, words in [
+    # hex, and what people write instead
+    ('01 00\n02 0\nevents\n', "line 2: '0' has an odd number of hex digits: a byte has two, an ID four"),
+    ('01 00\n020\nevents\n', "line 2: '020' has an odd number of hex digits: a byte has two, an ID four"),
+    ('01 00\n\n# a node\n0x02 00\nevents\n', "line 4: '0x02' has 0x before it: all numbers are hex here, so write the digits alone"),
+    ('01 00 // head\nevents\n', f"line 1: '//' {COMMENT}"),
+    ('01 00 ; head\nevents\n', f"line 1: ';' {COMMENT}"),
+    ('01 00 head\nevents\n', f"line 1: 'head' {COMMENT}"),
+    ('01 00;\nevents\n', "line 1: '00;' is not hex: write no ; behind a record"),
+    ('01,00\nevents\n', "line 1: '01,00' is not hex: write bytes with a space between them, or nothing"),
+    ('01 00\n0g0\nevents\n', "line 2: '0g0' is not hex"),
+    ('01:00\nevents\n', "line 1: '01:00' is not hex: write bytes with a space between them, or nothing"),
+    ('01 00\nEvents\n11\n', f"line 2: 'Events' {EVENTS}"),
+    ('01 00\nevents:\n11\n', f"line 2: 'events:' {EVENTS}"),
+    ('01 00\nevents 11\n', f"line 2: 'events' {EVENTS}"),
+    ('01 00\nevents\nevents\n', f"line 3: 'events' {EVENTS}"),
+    ('01 00\nevents\n11\n1g # a tick\n', "line 4: '1g' is not hex"),
+    ('01 00\n02 00\n', f'line 2: {MISSING}'),
+    ('', f'line 1: {MISSING}'),
+    ('01 00\n\x1b[2J\nevents\n', "line 2: '\\x1b[2J' is not hex"),
+    ('01 00\n' + 3000 * 'x' + '\nevents\n', f"line 2: '{40 * 'x'}...' {COMMENT}"),
+    ('0100\n' + 65534 * '00' + '\nevents\n', 'line 2: the plan passes 65,535 bytes, the most that its length can say'),
+    # a record or an event that spans lines
+    ('0100\n0200\nevents\n11\n10 00 0020 01 2c\n11\n11\n11\n11\n11\n11\n11\n', f'line 5: {RECEPTION}; here are 6, {EARLY}'),
+    ('0100\nevents\n10 00 0020 01 2c\n11\n', f'line 3: {RECEPTION}; here are 6, {EARLY}'),
+    ('0100\n0200\nevents\n12\n00\n', f'line 4: a take has 2 bytes: kind, node; here is 1, {EARLY}'),
+    ('0100\n0200\n03 00 0100 02 01 03 03 02 00000000000000\n04 00 0020 01 01 02 02 00 00 02\nevents\n',
+     f'line 3: {TX}; here are 16, {EARLY}'),
+    ('0100\n0200 02\n00\nevents\n', f'line 2: a node has 2 bytes: kind, type; here is 1, {EARLY}'),
+    ('0100\n04 00\n0020 01\nevents\n', f'line 2: {RX}; here are 2, {EARLY}'),
+]:
+    if run(text) != (1, '', f'tools/bench: FILE: {words}\n'):
+        sys.exit(f'{text[:60]!r}: {run(text)}, and not told {words!r}')
+
+# Texts that are run: the end, and words of the view.
+MANY = '0100\n0200\n' + ''.join(f'04 00 {frame:04x} 08 01 02 02 00 00 02\n' + 64 * '05 00 01\n' for frame in range(16)) + '07\nevents\n'
+for text, status, words in [
+    ('0100\nevents\n', 0, '=> plan ok 0 0 0 good: 0 nodes, 0 Tx frames, 0 Rx frames'),
+    ('# a plan\n01 00\n\n02 01\nevents\n11\n', 1,
+     'refused 5 at record 1, line 4: a field is outside its range type is hex 01, and its range is hex 00 (CAN) 1 event not run'),
+    ('0100\n\n02\nevents\n', 1, 'refused 1 at record 1, line 3: the input is empty, or the record runs past its end a node has 2 bytes: kind, type; here is 1'),
+    ('events\n', 1, 'refused 1 at record 0: the input is empty, or the record runs past its end the plan is empty; the least is a head, 01 00'),
+    ('0100\nevents\n11\n\n13 00\n', 1, f'input bad the run ends here, line 5: 13 is no kind: {EVENT_KINDS}'),
+    ('0100\nevents\n0200\n', 1, f"the run ends here, line 3: 02 is no kind: {EVENT_KINDS}; records stand before the line 'events'"),
+    ('0100\nevents\n10 00 0020 01\n', 1, f'input bad the run ends here, line 3: {RECEPTION}; here are 5'),
+    ('0100\n0200\n0200\nevents\n12 02\n', 0, 'take refused 12 no such node: there are nodes 0 to 1'),
+    ('0100\nevents\n' + 3 * (30000 * '11' + '\n'), 1, '=> input bad the input passes 65,536 bytes in line 5'),
+    (MANY, 1, ' 1041 05 00 01 signal: bit 0 1042 07 unknown kind 07: what follows cannot be read ^^ refused here => plan refused 2 1042 '),
+    ('# one\x1b[2J\r\n0100\r\nevents\r\n', 0, '# one\\x1b[2J no record'),
+    ('07' + 30000 * '00' + '\nevents\n', 1, '00 00... ^^^^'),
+]:
+    ended, shown, told = run(text)
+    if (ended, told) != (status, '') or words not in shown:
+        sys.exit(f'{text[:60]!r}: ended with {ended}, and {words!r} is not in {shown[-400:]!r} {told}')
+
+# Options and other programs: the end, all that is shown or its last words, and what is told.
+GOOD, REFUSED = '0100\nevents\n12 00\n', '0101 07\nevents\n'
+LINE = "sh -c 'echo plan ok 0 0 0; exit 7'"
+for expected, got in [
+    ((0, 'plan refused 2 1', ''), run(REFUSED, '--raw')),
+    ((0, 'plan ok 0 0 0 input bad', ''), run('0100\nevents\n13\n', '--raw')),
+    ((1, '', "tools/bench: FILE: line 1: '1' has an odd number of hex digits: a byte has two, an ID four\n"), run('1', '--raw')),
+    ((7, 'plan ok 0 0 0', ''), run(GOOD, '--raw', program=LINE)),
+    ((0, '00 02 01 00 12 00', ''), run(GOOD, '--hex', program='false')),
+    ((0, 'input bad', ''), run('\0\5\1\0', '--binary', '--raw')),
+    ((1, 'input bad the input is too short for the plan length or its stated plan', ''), run('\0\5\1\0', '--binary')),
+    ((1, 'refused 2 at record 1: the kind is not 1 to 6 07 is no kind:', ''), run('\0\3\1\0\7', '--binary')),
+    ((2, '', 'tools/bench: BENCH: No closing quotation\n'), run(GOOD, program="'")),
+    ((2, '', 'tools/bench: BENCH: /no/such/program: No such file or directory\n'), run(GOOD, program='/no/such/program')),
+    ((2, '', 'tools/bench: BENCH: ./README.md: Permission denied\n'), run(GOOD, program='./README.md')),
+    ((1, '', 'tools/bench: the program answered nothing and ended with 0\n'), run(GOOD, program='true')),
+    ((1, '', 'tools/bench: the program answered nothing and ended with 3\n'), run(GOOD, '--raw', program="sh -c 'exit 3'")),
+    ((1, '', 'tools/bench: the program answered nothing and ended with 137\n'), run(GOOD, program="sh -c 'kill -9 $$'")),
+    ((1, 'answer in words', 'tools/bench: the program gave 0 answers for 1 event\n'), run(GOOD, program='echo plan ok 0 0 0')),
+    ((1, 'refused 9 at record 77: an enabled', ''), run(GOOD, program='echo plan refused 9 77')),
+    ((1, 'refused 9 at record 0, line 1: an enabled', ''), run(GOOD, program='echo plan refused 9 0')),
+    ((1, 'hello no line of the bench program', ''), run(GOOD, program='echo hello')),
+    ((0, 'take on node 0 \\x1b[2J take no line of the bench program', ''), run(GOOD, program="printf 'plan ok 0 0 0\\n\\033[2J take\\n'")),
+]:
+    (status, words, message), (ended, shown, told) = expected, got
+    if ended != status or words not in shown or bool(words) != bool(shown) or message not in told or bool(message) != bool(told):
+        sys.exit(f'not {expected}: {got}')
+print('the typed texts: ok')

@@ -1,0 +1,90 @@
+"""The records of a plan and the events after it, as the bench program reads them; and what a plan's records say."""
+from collections import namedtuple
+from itertools import accumulate
+
+# By the kind byte: the name, and after the kind byte the fields with how many bytes each has.
+Kind = namedtuple('Kind', 'name fields')
+FRAME = {'node': 1, 'ID': 2, 'size': 1, 'prescaler': 1, 'reload': 1, 'initial timer': 1}
+RECORDS = {
+    1: Kind('a head', {'order': 1}),
+    2: Kind('a node', {'type': 1}),
+    3: Kind('a Tx frame', {**FRAME, 'flags': 1, 'initial payload': 8}),
+    4: Kind('an Rx frame', {**FRAME, 'failure enable': 1, 'failure position': 1, 'long count': 1}),
+    5: Kind('a signal', {'position': 1, 'signal size': 1}),
+    6: Kind('a destination', {'Tx frame': 2, 'position': 1}),
+}
+EVENTS = {16: Kind('a reception', {'node': 1, 'ID': 2, 'length': 1, 'data': 8}), 17: Kind('a tick', {}), 18: Kind('a take', {'node': 1})}
+
+# A record or an event: where it begins, its kind, the bytes of the kind and of each field, and the fields as numbers.
+# One that is cut or of an unknown kind takes the rest, a part for each byte, and has no fields.
+Record = namedtuple('Record', 'place kind parts fields')
+
+Tx = namedtuple('Tx', 'node id size prescaler reload initial flags payload')
+Rx = namedtuple('Rx', 'node id size prescaler reload initial enable position long_count record')
+# Who owns bits of a Tx frame: a destination, or the failure bit of an Rx frame.
+Owner = namedtuple('Owner', 'tx rx position size failure record')
+
+
+def records(data, kinds):
+    place = 0
+    while place < len(data):
+        kind = data[place]
+        sizes = [1, *kinds[kind].fields.values()] if kind in kinds else []
+        whole = bool(sizes) and place + sum(sizes) <= len(data)
+        ends = list(accumulate(sizes if whole else [1] * (len(data) - place), initial=place))
+        parts = [bytes(data[a:b]) for a, b in zip(ends, ends[1:])]
+        fields = {name: int.from_bytes(part, 'big') for name, part in zip(kinds[kind].fields, parts[1:])} if whole else None
+        yield Record(place, kind, parts, fields)
+        place = ends[-1]
+
+
+def size_of(record):
+    return sum(map(len, record.parts))
+
+
+def digits_of(record):
+    return ' '.join(part.hex() for part in record.parts)
+
+
+class Plan:
+    """What the records say that were added so far."""
+
+    def __init__(self):
+        self.order, self.nodes, self.tx, self.rx, self.owners = 'big', 0, [], [], []
+        self.kind = None          # of the last record
+        self.size = 0             # of the last signal
+        self.signals = self.destinations = 0
+        self.frame_signals = self.signal_destinations = 0  # of the last Rx frame, of the last signal
+
+    def add(self, number, record):
+        """Adds a whole record, which has this number."""
+        self.kind = record.kind
+        values = list(record.fields.values())
+        if record.kind == 1:
+            self.order = 'little' if values[0] else 'big'
+        elif record.kind == 2:
+            self.nodes += 1
+        elif record.kind == 3:
+            self.tx.append(Tx(*values))
+        elif record.kind == 4:
+            self.rx.append(Rx(*values, number))
+            self.frame_signals = 0
+        elif record.kind == 5:
+            self.size = values[1]
+            self.signals += 1
+            self.frame_signals += 1
+            self.signal_destinations = 0
+        else:
+            self.owners += self.claims(number, record)
+            self.destinations += 1
+            self.signal_destinations += 1
+
+    def claims(self, number, record):
+        """What a destination would own: its bits, and with the first one of an Rx frame that frame's failure bit."""
+        tx, position = record.fields.values()
+        rx = len(self.rx) - 1
+        claims = [Owner(tx, rx, position, self.size, False, number)]
+        first = not self.owners or self.owners[-1].rx != rx
+        if first and self.rx and self.rx[rx].enable:
+            claims.append(Owner(tx, rx, self.rx[rx].position, 1, True, self.rx[rx].record))
+        return claims

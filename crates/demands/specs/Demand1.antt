@@ -11,8 +11,8 @@ use Rattle.base.specs.Numbers.{byteAt, Bytes}
 use Rattle.records.specs.Records.{records}
 use Rattle.plan.specs.declared.verdict.Reason.{Reason}
 use Rattle.plan.specs.Refusals.{numberOf}
+use Rattle.records.specs.Kinds.{nodeStage, txStage, rxStage}
 use Rattle.facts.specs.Good.{countOf}
-use Rattle.area.specs.Layout.{areaLength, LongEnough}
 use Rattle.refusals.specs.Table.{Refuses, Unrefused}
 use Rattle.answers.specs.declared.Refusal.{Refusal}
 use Rattle.answers.specs.declared.Refusal.the-variants.{Plan as BadPlan, ShortArea, NotOpen}
@@ -34,15 +34,15 @@ use Rattle.demands.specs.Numbers.{Numbers}
 -- "It answers the counts of nodes, Tx and Rx frames."
 pub record Succeeds (plan a : List ℕ) (n t r : ℕ) : Type 0 where
   pub good : Unrefused plan
-  pub long : LongEnough a
-  pub nodes : n ≡ countOf 2 (records plan)
-  pub tx : t ≡ countOf 3 (records plan)
-  pub rx : r ≡ countOf 4 (records plan)
+  pub long : 32768 ≤ length a
+  pub nodes : n ≡ countOf nodeStage (records plan)
+  pub tx : t ≡ countOf txStage (records plan)
+  pub rx : r ≡ countOf rxStage (records plan)
 
 pub record OpeningAnswers (plan a : List ℕ) : Type 0 where
   pub bad : (reason : Reason) (at : ℕ) → (openAnswer plan a ≡ ofOpening.Refused (BadPlan reason) at) ↔ Refuses plan (numberOf reason) at
   -- 10: "the plan is good and the area is shorter than 32,768 bytes"; "Refusal 10 carries record number 0."
-  pub short : (at : ℕ) → (openAnswer plan a ≡ ofOpening.Refused ShortArea at) ↔ (Unrefused plan × (length a < areaLength) × (at ≡ 0))
+  pub short : (at : ℕ) → (openAnswer plan a ≡ ofOpening.Refused ShortArea at) ↔ (Unrefused plan × (length a < 32768) × (at ≡ 0))
   pub good : (n t r : ℕ) → (openAnswer plan a ≡ ofOpening.Open n t r) ↔ Succeeds plan a n t r
   pub nothing-else : (why : Refusal) (at : ℕ) → openAnswer plan a ≡ ofOpening.Refused why at
       → ((reason : Reason) × (why ≡ BadPlan reason)) ⊎ (why ≡ ShortArea)
@@ -73,7 +73,7 @@ pub record RefusalsWriteNothing (a : List ℕ) : Type 0 where
 pub record Stays (c : Step) (a : List ℕ) : Type 0 where
   pub size : length (stepped a c) ≡ length a
   pub mark : Marked a → Marked (stepped a c)
-  pub past : (j : ℕ) → areaLength ≤ j → byteAt (stepped a c) j ≡ byteAt a j
+  pub past : (j : ℕ) → 32768 ≤ j → byteAt (stepped a c) j ≡ byteAt a j
 
 -- ---- the demand, of any opening or call on any area
 

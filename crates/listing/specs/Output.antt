@@ -2,7 +2,6 @@
 use Prim.Native.Nat.{ℕ}
 use mathlib.Core.List.{List, [], _∷_, _++_}
 use Rattle.base.specs.Pick.{pick}
-use Rattle.plan.specs.Shortest.{shortestArea}
 use Rattle.answers.specs.declared.Opened.{Opened}
 use Rattle.answers.specs.declared.Opened.the-variants.{Open, Refused}
 use Rattle.events.specs.declared.Front.{Front}
@@ -32,7 +31,7 @@ linesOf (reply ∷ rest) = lineOf reply ++ linesOf rest
 
 -- the bench's area has 32,768 bytes, and nothing is open in it
 abbrev pub bench : Gateway
-bench = theModel shortestArea
+bench = theModel 32768
 
 abbrev pub told : List Step → List Reply
 told steps = replies bench closed steps

@@ -1,7 +1,6 @@
 -- "Plan, 39 bytes .. Events: ..": document 01's listing, from the plan's bytes to the answers, as a case of the model.
 use mathlib.Core.Path.{_≡_}
 use mathlib.Core.List.{List, [], _∷_}
-use Rattle.plan.specs.Shortest.{shortestArea}
 use Rattle.facts.specs.PlanCases.{listing}
 use Rattle.answers.specs.declared.Opened.the-variants.{Open}
 use Rattle.answers.specs.declared.Received.the-variants.{Accepted, NoRow, TooShort}
@@ -35,4 +34,4 @@ told =
     ∷ []
 
 abbrev pub ListingAnswered : Type 0
-ListingAnswered = replies (theModel shortestArea) closed steps ≡ told
+ListingAnswered = replies (theModel 32768) closed steps ≡ told

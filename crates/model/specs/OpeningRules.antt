@@ -6,7 +6,7 @@ use lib.ListN.{length, getD}
 use Rattle.records.specs.Records.{records, eightBytes}
 use Rattle.plan.specs.declared.verdict.Reason.{Reason}
 use Rattle.plan.specs.Refusals.{numberOf}
-use Rattle.plan.specs.Shortest.{shortestArea}
+use Rattle.records.specs.Kinds.{nodeStage, txStage, rxStage}
 use Rattle.facts.specs.Good.{countOf}
 use Rattle.refusals.specs.Table.{Refuses, Unrefused}
 use Rattle.answers.specs.declared.Refusal.the-variants.{Plan as BadPlan, ShortArea, NotOpen}
@@ -33,7 +33,7 @@ pub record Begins (p : Plan) (s : State) : Type 0 where
 
 -- "It answers the counts of nodes, Tx and Rx frames."
 pub record Opens (g : Gateway) (w : World) (plan : List ℕ) : Type 0 where
-  pub answer : g .opens w plan ≡ Open (countOf 2 (records plan)) (countOf 3 (records plan)) (countOf 4 (records plan))
+  pub answer : g .opens w plan ≡ Open (countOf nodeStage (records plan)) (countOf txStage (records plan)) (countOf rxStage (records plan))
   pub state : State
   pub begins : g .begins w plan ≡ holding plan state
   pub initial : Begins (said plan) state
@@ -53,8 +53,8 @@ pub record Numbered (g : Gateway) (w : World) (plan : List ℕ) (number at : ℕ
 pub record OpeningRules (room : ℕ) (g : Gateway) (w : World) (plan : List ℕ) : Type 0 where
   pub bad : (number at : ℕ) → Refuses plan number at → Numbered g w plan number at
   -- 10: "the plan is good and the area is shorter than 32,768 bytes"; "Refusal 10 carries record number 0."
-  pub short : Unrefused plan → room < shortestArea → RefusedOpening g w plan (Refused ShortArea 0)
-  pub good : Unrefused plan → shortestArea ≤ room → Opens g w plan
+  pub short : Unrefused plan → room < 32768 → RefusedOpening g w plan (Refused ShortArea 0)
+  pub good : Unrefused plan → 32768 ≤ room → Opens g w plan
 
 -- ---- 11: "in a call, the area .. does not begin with hex 47 57"
 

@@ -5,8 +5,7 @@ use Prim.Native.Nat.{ℕ}
 use lib.ListN.{length}
 use Rattle.model.specs.Listing.{steps, told}
 use Rattle.history.specs.Calls.{repliesIn}
-use Rattle.area.specs.Layout.{areaLength}
 
 -- whatever stood in the area before
 abbrev pub ListingOnBytes : Type 0
-ListingOnBytes = (a : List ℕ) → length a ≡ areaLength → repliesIn a steps ≡ told
+ListingOnBytes = (a : List ℕ) → length a ≡ 32768 → repliesIn a steps ≡ told

@@ -1,14 +1,14 @@
 -- The one place where the bytes of an area meet the model: what an area shows, and that it answers as the model does.
 use mathlib.Core.Path.{_≡_}
 use mathlib.Core.List.{List, _∷_, _++_}
-use Prim.Native.Nat.{ℕ, _+_, _<_}
+use Prim.Native.Nat.{ℕ, _+_, _<_, _≤_}
 use lib.ListN.{length, getD}
 use Rattle.base.specs.Numbers.{byteAt, Bytes}
 use Rattle.clock.specs.Counter.{counterAfter}
 use Rattle.records.specs.Records.{records}
 use Rattle.plan.specs.Rows.{txOf, rowsOf, nodesIn}
 use Rattle.facts.specs.Good.{Each}
-use Rattle.area.specs.Layout.{LongEnough, txTimer, rxTimer, long, payload, counter}
+use Rattle.area.specs.Layout.{txTimer, rxTimer, long, payload, counter}
 use Rattle.area.specs.Queue.{queueOf}
 use Rattle.answers.specs.declared.Opened.the-variants.{Open}
 use Rattle.history.specs.Calls.{replyIn, repliesIn, afterIn}
@@ -30,7 +30,7 @@ pub record Shows (plan a : List ℕ) (s : State) : Type 0 where
 
 -- 11: "the area is shorter than 32,768 bytes or does not begin with hex 47 57": here neither
 pub record Marked (a : List ℕ) : Type 0 where
-  pub size : LongEnough a
+  pub size : 32768 ≤ length a
   pub first : byteAt a 0 ≡ 0x47
   pub second : byteAt a 1 ≡ 0x57
 

@@ -1,5 +1,9 @@
-// Reception, tick and take in C, after AN3333, section 3.2.
+// Reception, tick and take in C, after AN3333, section 3.2. word64.c compiles this file once more, with another copy of a signal.
 #include "an3333.h"
+#ifndef CALL
+#define CALL(name) an3333_##name
+#include "copy_bytes.h"
+#endif
 
 static struct tables *opened(const uint8_t *area, size_t length)
 {
@@ -46,53 +50,8 @@ static void assign_failure(struct tables *g, const struct rx_frame *rx, int valu
     *byte = value ? *byte | bit : *byte & ~bit;
 }
 
-// CopySignalChkBE: one turn for each byte of the destination, made of eight bits of the source, which two of its bytes hold. A byte of the
-// destination that does not change is not written.
-static int copy_big(const uint8_t *source, unsigned p, unsigned size, uint8_t *to, unsigned q)
-{
-    unsigned skipped = q & 7, at = p + 8 - skipped, shift = 8 - (at & 7), mask = 0xff >> skipped, change;
-    int changed = 0;
-    source += at >> 3;
-    to += q >> 3;
-    for (size += skipped; size > 8; size -= 8, source++, to++) {
-        change = ((source[0] << 8 | source[1]) >> shift ^ *to) & mask;
-        if (change) {
-            *to ^= change;
-            changed = 1;
-        }
-        mask = 0xff;
-    }
-    change = ((source[0] << 8 | source[1]) >> shift ^ *to) & mask & 0xff00 >> size;
-    if (!change)
-        return changed;
-    *to ^= change;
-    return 1;
-}
-
-// The same for little order: bit 0 is the lowest of its byte.
-static int copy_little(const uint8_t *source, unsigned p, unsigned size, uint8_t *to, unsigned q)
-{
-    unsigned skipped = q & 7, at = p + 8 - skipped, shift = at & 7, mask = 0xff << skipped & 0xff, change;
-    int changed = 0;
-    source += at >> 3;
-    to += q >> 3;
-    for (size += skipped; size > 8; size -= 8, source++, to++) {
-        change = ((source[0] | source[1] << 8) >> shift ^ *to) & mask;
-        if (change) {
-            *to ^= change;
-            changed = 1;
-        }
-        mask = 0xff;
-    }
-    change = ((source[0] | source[1] << 8) >> shift ^ *to) & mask & 0xff >> (8 - size);
-    if (!change)
-        return changed;
-    *to ^= change;
-    return 1;
-}
-
 // CopySignals: the signals of a frame, each to its destinations.
-static void copy_signals(struct tables *g, const struct rx_frame *rx, const uint8_t *source)
+static void copy_signals(struct tables *g, const struct rx_frame *rx, const struct source *source)
 {
     const union descriptor *d = &g->descriptor[rx->descriptors];
     for (unsigned signals = rx->signals; signals; signals--) {
@@ -107,7 +66,7 @@ static void copy_signals(struct tables *g, const struct rx_frame *rx, const uint
     }
 }
 
-uint64_t an3333_receive(uint8_t *area, size_t area_length, size_t node, uint32_t id, const uint8_t *payload, size_t payload_length)
+uint64_t CALL(receive)(uint8_t *area, size_t area_length, size_t node, uint32_t id, const uint8_t *payload, size_t payload_length)
 {
     struct tables *g = opened(area, area_length);
     if (!g)
@@ -121,13 +80,12 @@ uint64_t an3333_receive(uint8_t *area, size_t area_length, size_t node, uint32_t
         return 1;
     if (payload_length < rx->size)
         return 2;
-    // a byte before and one behind, for the two bytes that are read at once may begin or end outside
-    uint8_t source[10] = {0};
-    memcpy(source + 1, payload, rx->size);
+    struct source source;
+    load(&source, payload, rx->size, g->order);
     rx->timer.count = rx->timer.reload;
     if (rx->failure_position != NO_INDICATOR)
         assign_failure(g, rx, 0);
-    copy_signals(g, rx, source);
+    copy_signals(g, rx, &source);
     return 0;
 }
 
@@ -152,7 +110,7 @@ static uint8_t time_out(struct tables *g, struct rx_frame *rx)
 }
 
 // GatewayTick: the counter moves on last.
-uint64_t an3333_tick(uint8_t *area, size_t area_length, uint8_t *report, size_t report_length)
+uint64_t CALL(tick)(uint8_t *area, size_t area_length, uint8_t *report, size_t report_length)
 {
     struct tables *g = opened(area, area_length);
     if (!g)
@@ -171,7 +129,7 @@ uint64_t an3333_tick(uint8_t *area, size_t area_length, uint8_t *report, size_t 
 }
 
 // MsCanTxEmptyIsr: the oldest frame of a node's ring.
-uint64_t an3333_take(uint8_t *area, size_t area_length, size_t node_number)
+uint64_t CALL(take)(uint8_t *area, size_t area_length, size_t node_number)
 {
     struct tables *g = opened(area, area_length);
     if (!g)
@@ -191,7 +149,7 @@ uint64_t an3333_take(uint8_t *area, size_t area_length, size_t node_number)
     return word(256, (uint64_t)(tx - g->tx) | tx->size << 8, tx->id, (unsigned)waiting);
 }
 
-uint64_t an3333_payload(const uint8_t *area, size_t area_length, uint64_t taken)
+uint64_t CALL(payload)(const uint8_t *area, size_t area_length, uint64_t taken)
 {
     (void)area;
     if ((taken & 0xffff) != 256 || area_length < AREA_SIZE)
@@ -199,7 +157,7 @@ uint64_t an3333_payload(const uint8_t *area, size_t area_length, uint64_t taken)
     return word(0, taken >> 24 & 0xff, offsetof(struct tables, tx) + sizeof(struct tx_frame) * (taken >> 16 & 0xff), 0);
 }
 
-uint64_t an3333_fullness(const uint8_t *area, size_t area_length, size_t tx)
+uint64_t CALL(fullness)(const uint8_t *area, size_t area_length, size_t tx)
 {
     const struct tables *g = opened(area, area_length);
     if (!g)

@@ -1,4 +1,4 @@
-// The tables of a gateway in C after Freescale AN3333, section 3.1, in a lent area. Both programs have the same calls.
+// The tables of a gateway in C after Freescale AN3333, section 3.1, in a lent area. All the gateways here have the same calls.
 #pragma once
 #include "bare.h"
 
@@ -72,3 +72,10 @@ uint64_t an3333_tick(uint8_t *area, size_t area_length, uint8_t *report, size_t 
 uint64_t an3333_take(uint8_t *area, size_t area_length, size_t node);
 uint64_t an3333_payload(const uint8_t *area, size_t area_length, uint64_t taken);
 uint64_t an3333_fullness(const uint8_t *area, size_t area_length, size_t tx);
+
+// The same with another copy of a signal; an3333_open opens for both.
+uint64_t word64_receive(uint8_t *area, size_t area_length, size_t node, uint32_t id, const uint8_t *payload, size_t payload_length);
+uint64_t word64_tick(uint8_t *area, size_t area_length, uint8_t *report, size_t report_length);
+uint64_t word64_take(uint8_t *area, size_t area_length, size_t node);
+uint64_t word64_payload(const uint8_t *area, size_t area_length, uint64_t taken);
+uint64_t word64_fullness(const uint8_t *area, size_t area_length, size_t tx);

@@ -25,7 +25,7 @@ __attribute__((used)) _Noreturn void begin(long words, char **word)
     stop(program((int)words, word));
 }
 
-// Both programs call these two, as a C library would have them: long pieces first, and the rest by two pieces that overlap.
+// All the gateways call these two, as a C library would have them: long pieces first, and the rest by two pieces that overlap.
 typedef struct { uint64_t half[2]; } __attribute__((packed)) sixteen;
 typedef struct { uint64_t number; } __attribute__((packed)) eight;
 typedef struct { uint32_t number; } __attribute__((packed)) four;
@@ -84,19 +84,8 @@ void print_number(uint64_t n)
 {
     char text[24], *at = text + 23;
     *at = 0;
-    for (int digits = 0; n || !digits; n /= 10) {
-        if (digits && digits % 3 == 0)
-            *--at = ',';
+    do
         *--at = (char)('0' + n % 10);
-        digits++;
-    }
+    while (n /= 10);
     print(at);
-}
-
-void print_ratio(uint64_t a, uint64_t b)
-{
-    uint64_t hundredths = (200 * a + b) / (2 * b);
-    char decimals[] = {'.', (char)('0' + hundredths / 10 % 10), (char)('0' + hundredths % 10), 0};
-    print_number(hundredths / 100);
-    print(decimals);
 }

@@ -10,8 +10,6 @@ void *memset(void *to, int byte, size_t n);
 
 void print(const char *text);
 void print_number(uint64_t n);
-// `a / b` with two decimals, rounded
-void print_ratio(uint64_t a, uint64_t b);
 _Noreturn void stop(int status);
 long system_call(long number, long a, long b, long c, long d);
 

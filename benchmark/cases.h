@@ -5,7 +5,7 @@
 
 enum call { OPEN, RECEIVE, TICK, TAKE, PAYLOAD, CALLS };
 
-// One gateway at work. The digest takes in all that it answers, reports and keeps, so that two can be compared.
+// One gateway at work. The digest takes in all that it answers, reports and keeps, so that they can be compared.
 struct run {
     const struct gateway *gateway;
     uint64_t digest;

@@ -22,8 +22,8 @@ static uint64_t number(const char *text)
 }
 
 static struct plan plan;
-static uint8_t area[2][AREA_SIZE] __attribute__((aligned(16)));
-static uint8_t report[2][300];
+static uint8_t area[GATEWAYS][AREA_SIZE] __attribute__((aligned(16)));
+static uint8_t report[GATEWAYS][300];
 static unsigned nodes, tx_frames, rows, row_node[300], row_id_of[300];
 static int size_of[300];
 static uint64_t owned[300];
@@ -131,27 +131,49 @@ static void spoil(void)
         plan.byte[chance(plan.length)] = chance(2) ? chance(8) : chance(256);
 }
 
+// What each gateway answered.
+typedef uint64_t answers[GATEWAYS];
+
+static int same(const answers answer)
+{
+    for (int g = 1; g < GATEWAYS; g++)
+        if (answer[g] != answer[0])
+            return 0;
+    return 1;
+}
+
+static int same_bytes(const uint8_t *a, const uint8_t *b, size_t n)
+{
+    for (size_t i = 0; i < n; i++)
+        if (a[i] != b[i])
+            return 0;
+    return 1;
+}
+
 static int same_payloads(void)
 {
     for (uint64_t t = 0; t < 256; t++) {
-        uint64_t frame = word(256, t | 8 << 8, 0, 0);
-        const uint8_t *a = area[0] + gateway_payload_place(ours.payload(area[0], AREA_SIZE, frame));
-        const uint8_t *b = area[1] + gateway_payload_place(theirs.payload(area[1], AREA_SIZE, frame));
-        for (int i = 0; i < 8; i++)
-            if (a[i] != b[i])
+        const uint8_t *kept[GATEWAYS];
+        for (int g = 0; g < GATEWAYS; g++) {
+            kept[g] = area[g] + gateway_payload_place(gateways[g].payload(area[g], AREA_SIZE, word(256, t | 8 << 8, 0, 0)));
+            if (!same_bytes(kept[0], kept[g], 8))
                 return 0;
+        }
     }
     return 1;
 }
 
 static int same_payload(uint64_t taken)
 {
-    uint64_t a = ours.payload(area[0], AREA_SIZE, taken), b = theirs.payload(area[1], AREA_SIZE, taken);
-    if (gateway_payload_size(a) != gateway_payload_size(b))
-        return 0;
-    for (size_t i = 0; i < gateway_payload_size(a); i++)
-        if (area[0][gateway_payload_place(a) + i] != area[1][gateway_payload_place(b) + i])
+    const uint8_t *at[GATEWAYS];
+    answers size;
+    for (int g = 0; g < GATEWAYS; g++) {
+        uint64_t answer = gateways[g].payload(area[g], AREA_SIZE, taken);
+        size[g] = gateway_payload_size(answer);
+        at[g] = area[g] + gateway_payload_place(answer);
+        if (size[g] != size[0] || !same_bytes(at[0], at[g], size[g]))
             return 0;
+    }
     return 1;
 }
 
@@ -163,33 +185,41 @@ static int same_reception(void)
     size_t length = chance(10) ? 8 : chance(11), size = chance(50) ? AREA_SIZE : AREA_SIZE - 1;
     for (int i = 0; i < 16; i++)
         payload[i] = chance(3) ? chance(256) : 0;
-    return ours.receive(area[0], size, node, id, payload, length) == theirs.receive(area[1], size, node, id, payload, length);
+    answers answer;
+    for (int g = 0; g < GATEWAYS; g++)
+        answer[g] = gateways[g].receive(area[g], size, node, id, payload, length);
+    return same(answer);
 }
 
 static int same_tick(void)
 {
     size_t length = chance(20) ? 300 : chance(257);
-    for (int i = 0; i < 300; i++)
-        report[0][i] = report[1][i] = 0x77;
-    if (ours.tick(area[0], AREA_SIZE, report[0], length) != theirs.tick(area[1], AREA_SIZE, report[1], length))
-        return 0;
-    for (int i = 0; i < 300; i++)
-        if (report[0][i] != report[1][i])
+    answers answer;
+    for (int g = 0; g < GATEWAYS; g++) {
+        memset(report[g], 0x77, 300);
+        answer[g] = gateways[g].tick(area[g], AREA_SIZE, report[g], length);
+        if (!same_bytes(report[0], report[g], 300))
             return 0;
-    return 1;
+    }
+    return same(answer);
 }
 
 static int same_take(void)
 {
     size_t node = chance(10) ? chance(nodes) : chance(18);
-    uint64_t a = ours.take(area[0], AREA_SIZE, node), b = theirs.take(area[1], AREA_SIZE, node);
-    return a == b && same_payload(a);
+    answers answer;
+    for (int g = 0; g < GATEWAYS; g++)
+        answer[g] = gateways[g].take(area[g], AREA_SIZE, node);
+    return same(answer) && same_payload(answer[0]);
 }
 
 static int same_fullness(void)
 {
     size_t tx = chance(260);
-    return ours.fullness(area[0], AREA_SIZE, tx) == theirs.fullness(area[1], AREA_SIZE, tx);
+    answers answer;
+    for (int g = 0; g < GATEWAYS; g++)
+        answer[g] = gateways[g].fullness(area[g], AREA_SIZE, tx);
+    return same(answer);
 }
 
 static int same_calls(void)
@@ -212,15 +242,18 @@ int check(const char *seed, const char *plans)
         if (chance(3) == 0)
             spoil();
         size_t size = chance(30) ? AREA_SIZE : chance(AREA_SIZE);
-        area[0][0] = area[1][0] = 0;
-        uint64_t a = ours.open(plan.byte, plan.length, area[0], size), b = theirs.open(plan.byte, plan.length, area[1], size);
-        if (a != b || !same_calls()) {
+        answers answer;
+        for (int g = 0; g < GATEWAYS; g++) {
+            area[g][0] = 0;
+            answer[g] = gateways[g].open(plan.byte, plan.length, area[g], size);
+        }
+        if (!same(answer) || !same_calls()) {
             print("the gateways differ at plan ");
             print_number(i);
             print("\n");
             return 1;
         }
-        met[gateway_number(a)]++;
+        met[gateway_number(answer[0])]++;
     }
     print_number(all);
     print(" plans, no difference. Good:");

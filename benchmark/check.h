@@ -1,3 +1,3 @@
 #pragma once
-// Compares the two gateways on `plans` plans made from a seed, and on calls made for each. 0 if they never differ.
+// Compares the gateways on `plans` plans made from a seed, and on calls made for each. 0 if they never differ.
 int check(const char *seed, const char *plans);

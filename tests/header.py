@@ -64,7 +64,7 @@ def numbers_said(texts):
     for name, number in re.findall(r'^receivedNumber (\w+) = (\d+)$', texts['answers'], flags=re.M):
         said['GATEWAY_' + upper(name)] = int(number)
     said['GATEWAY_AREA_SIZE'] = int(re.search(r'^shortestArea = (\d+)$', texts['shortest'], flags=re.M).group(1))
-    said['GATEWAY_REPORT_SIZE'] = int(re.search(r'^rxCount a = twoAt a rxCountBytes % (\d+)$', texts['layout'], flags=re.M).group(1)) - 1
+    said['GATEWAY_REPORT_SIZE'] = int(re.search(r'^rxCount a = atMost (\d+) \(lowAt a rxCountBytes\)$', texts['layout'], flags=re.M).group(1))
     timeouts = re.search(r'^expiredReport a r = pick \(.*\) (\d) (\d)$', texts['tick'], flags=re.M)
     said['GATEWAY_LONG_TIMEOUT'], said['GATEWAY_SHORT_TIMEOUT'] = int(timeouts.group(1)), int(timeouts.group(2))
     return said

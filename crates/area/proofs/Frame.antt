@@ -3,19 +3,20 @@
 use mathlib.Core.Path.{_≡_, refl, _∙_}
 use mathlib.Core.Bool.{Bool}
 use mathlib.Core.List.{List, [], _∷_}
-use Prim.Native.Nat.{ℕ, zero, suc, _+_, _<_, _≤_, _/_, _%_}
+use Prim.Native.Nat.{ℕ, zero, suc, _+_, _-_, _<_, _≤_, _/_, _%_}
 use native.Mathlib.Nat.{add-zero}
 use native.Mathlib.Omega.{arith}
 use lib.ListN.{length, set, drop, length-set, length-drop}
 use lib.Seq.{getD-set-other, getD-drop, ext-getD}
 use Rattle.base.specs.Pick.{pick}
-use Rattle.base.specs.Numbers.{byteAt, twoAt, setTwo}
+use Rattle.base.specs.Numbers.{byteAt, lowAt, setLow}
 use Rattle.base.proofs.Picks.{both}
+use Rattle.base.proofs.Ranges.{at-most-le}
 use Rattle.bits.specs.Payload.{bitAt, setBit, copied}
 use Rattle.plan.specs.Rows.{Source, copy, failure, widthOf, Claim}
 use Rattle.area.specs.declared.queue.Ends.{Ends}
-use Rattle.area.specs.Layout.{txTimersStart, fullStart, entriesStart, payloadsStart, planStart, queue, waits, txTimer, spot}
-use Rattle.area.specs.Queue.{slot, setEnds, queued, scheduled, oldest, dequeued}
+use Rattle.area.specs.Layout.{txReloadsStart, fullStart, entriesStart, payloadsStart, planStart, entryCount, queue, waits, txTimer, spot}
+use Rattle.area.specs.Queue.{endsOf, slot, behind, setEnds, queued, scheduled, oldest, dequeued}
 use Rattle.area.specs.Claims.{RxEvent, accepted, expired, sentIf, doneBy, sentBy, done, allDone}
 
 pub record Same (P : ℕ → Type 0) (a b : List ℕ) : Type 0 where
@@ -38,8 +39,8 @@ module _ {P : ℕ → Type 0} where
         at = λ j p. getD-set-other b i j v 0 (λ e. never (rw e at p)) ∙ s .at j p;
       }
 
-  pub same-setTwo : {a b : List ℕ} (i v : ℕ) → (P i → ⊥) → (P (i + 1) → ⊥) → Same P a b → Same P a (setTwo b i v)
-  same-setTwo i v high low s = same-set (i + 1) _ low (same-set i _ high s)
+  pub same-setLow : {a b : List ℕ} (i v : ℕ) → (P i → ⊥) → (P (i + 1) → ⊥) → Same P a b → Same P a (setLow b i v)
+  same-setLow i v high low s = same-set (i + 1) _ low (same-set i _ high s)
 
   pub same-pick : {a : List ℕ} (t : Bool) (x y : List ℕ) → Same P a x → Same P a y → Same P a (pick t x y)
   same-pick {a} t x y = both (Same P a) t x y
@@ -57,7 +58,7 @@ module _ {P : ℕ → Type 0} where
       same-setBit o _ _ (never k (omega arith)) (same-copied o source p k q (λ j l. never j (omega arith)) s)
 
   -- and what is read there
-  pub same-two : {a b : List ℕ} → Same P a b → (i : ℕ) → P i → P (i + 1) → twoAt b i ≡ twoAt a i
+  pub same-two : {a b : List ℕ} → Same P a b → (i : ℕ) → P i → P (i + 1) → lowAt b i ≡ lowAt a i
   same-two s i high low = rw (s .at i high, s .at (i + 1) low)
 
   pub same-tail : (n : ℕ) {a b : List ℕ} → Same P a b → ((j : ℕ) → n ≤ j → P j) → drop n b ≡ drop n a
@@ -82,17 +83,29 @@ NoEnds P n = (j : ℕ) → queue n + 4 ≤ j → j < queue n + 8 → P j → ⊥
 abbrev pub NoRing : (ℕ → Type 0) → Type 0
 NoRing P = (j : ℕ) → entriesStart ≤ j → j < payloadsStart → P j → ⊥
 
+-- every entry lies among the entries
+pub slot-low : (e : Ends) (i : ℕ) → entriesStart ≤ slot e i
+unfolding slot
+slot-low e i = omega arith
+
+pub slot-high : (e : Ends) (i : ℕ) → slot e i + 2 ≤ payloadsStart
+unfolding slot
+slot-high e i = omega (arith, at-most-le (entryCount - 1) (e .start + i))
+
 module _ {P : ℕ → Type 0} where
   pub same-setEnds : {a b : List ℕ} (n : ℕ) (e : Ends) → NoEnds P n → Same P a b → Same P a (setEnds b n e)
   unfolding setEnds
   same-setEnds n e ends s =
-      same-setTwo _ _ (ends _ (omega arith) (omega arith)) (ends _ (omega arith) (omega arith))
-      (same-setTwo _ _ (ends _ (omega arith) (omega arith)) (ends _ (omega arith) (omega arith)) s)
+      same-setLow _ _ (ends _ (omega arith) (omega arith)) (ends _ (omega arith) (omega arith))
+      (same-setLow _ _ (ends _ (omega arith) (omega arith)) (ends _ (omega arith) (omega arith)) s)
 
   pub same-queued : (a : List ℕ) (n t : ℕ) → NoEnds P n → NoRing P → Same P a (queued a n t)
-  unfolding queued slot
+  unfolding queued
   same-queued a n t ends ring =
-      same-setEnds n _ ends (same-setTwo _ _ (ring _ (omega arith) (omega arith)) (ring _ (omega arith) (omega arith)) (same-refl a))
+      let at = behind (endsOf a n) (endsOf a n .waiting) in
+      let low = slot-low (endsOf a n) at in
+      let high = slot-high (endsOf a n) at in
+      same-setEnds n _ ends (same-setLow _ _ (ring _ (omega arith) (omega arith)) (ring _ (omega arith) (omega arith)) (same-refl a))
 
   pub same-dequeued : (a : List ℕ) (n : ℕ) → NoEnds P n → (P (waits (oldest a n)) → ⊥) → Same P a (dequeued a n)
   unfolding dequeued
@@ -100,7 +113,7 @@ module _ {P : ℕ → Type 0} where
 
 -- P names no end of any queue, and no ring entry
 module _ {P : ℕ → Type 0} (ends : (n : ℕ) → n < 16 → NoEnds P n) (ring : NoRing P) where
-  pub same-scheduled : (a : List ℕ) (t : ℕ) → (P (waits t) → ⊥) → (P (txTimer t + 1) → ⊥) → Same P a (scheduled a t)
+  pub same-scheduled : (a : List ℕ) (t : ℕ) → (P (waits t) → ⊥) → (P (txTimer t) → ⊥) → Same P a (scheduled a t)
   unfolding scheduled
   same-scheduled a t never timer =
       same-pick _ _ _
@@ -108,7 +121,7 @@ module _ {P : ℕ → Type 0} (ends : (n : ℕ) → n < 16 → NoEnds P n) (ring
       (same-refl a)
 
   pub same-sentIf :
-      (flags : ℕ) (changed : Bool) (a : List ℕ) (t : ℕ) → (P (waits t) → ⊥) → (P (txTimer t + 1) → ⊥) → Same P a (sentIf flags changed a t)
+      (flags : ℕ) (changed : Bool) (a : List ℕ) (t : ℕ) → (P (waits t) → ⊥) → (P (txTimer t) → ⊥) → Same P a (sentIf flags changed a t)
   unfolding sentIf
   same-sentIf flags changed a t never timer =
       let s = same-scheduled a t never timer in
@@ -120,7 +133,7 @@ module _ {P : ℕ → Type 0} (ends : (n : ℕ) → n < 16 → NoEnds P n) (ring
 pub record Off (P : ℕ → Type 0) (c : Claim) : Type 0 where
   pub bits : (k : ℕ) → k < widthOf (c .from) → P ((spot (c .tx % 256) (c .at) + k) / 8) → ⊥
   pub wait : P (waits (c .tx % 256)) → ⊥
-  pub timer : P (txTimer (c .tx % 256) + 1) → ⊥
+  pub timer : P (txTimer (c .tx % 256)) → ⊥
 
 abbrev pub Each : {A : Type 0} → (A → Type 0) → List A → Type 0
 Each Q [] = Unit {0}
@@ -137,7 +150,7 @@ module _ {P : ℕ → Type 0} (ends : (n : ℕ) → n < 16 → NoEnds P n) (ring
   same-doneBy o (expired r) a place failure never = same-setBit o place _ (λ p. never 0 (omega arith) (rw add-zero p)) (same-refl a)
 
   same-sentBy :
-      (o : ℕ) (e : RxEvent) (a b : List ℕ) (t place : ℕ) (s : Source) → (P (waits t) → ⊥) → (P (txTimer t + 1) → ⊥)
+      (o : ℕ) (e : RxEvent) (a b : List ℕ) (t place : ℕ) (s : Source) → (P (waits t) → ⊥) → (P (txTimer t) → ⊥)
       → Same P b (sentBy o e a b t place s)
   unfolding sentBy
   same-sentBy o (accepted r pl) a b t place (copy p s) never timer = same-sentIf ends ring _ _ b t never timer
@@ -160,7 +173,7 @@ module _ {P : ℕ → Type 0} (ends : (n : ℕ) → n < 16 → NoEnds P n) (ring
 -- P: outside the ends of the queues, the timers, long counters and waits, and the entries, payloads and masks
 pub record Spared (P : ℕ → Type 0) : Type 0 where
   pub ends : (n : ℕ) → n < 16 → NoEnds P n
-  pub low : (j : ℕ) → txTimersStart ≤ j → j < fullStart → P j → ⊥
+  pub low : (j : ℕ) → txReloadsStart ≤ j → j < fullStart → P j → ⊥
   pub high : (j : ℕ) → entriesStart ≤ j → j < planStart → P j → ⊥
 
 -- a claim as a plan of bytes states it: its bits may run past its Tx frame's payload, and end before the plan

@@ -1,17 +1,17 @@
 -- What no call after the opening changes: the header but its counter, the nodes, where each queue's ring lies, the tables of the frames, and the
 -- plan. Hence what is read from them is the same after as before, on any area.
-use mathlib.Core.Path.{_≡_, refl}
+use mathlib.Core.Path.{_≡_, refl, ap, _∙_}
 use mathlib.Core.Bool.{Bool}
 use mathlib.Core.List.{List}
 use Prim.Native.Nat.{ℕ, _+_, _<_, _≤_}
 use native.Mathlib.Omega.{arith}
-use lib.ListN.{set}
-use Rattle.base.specs.Numbers.{byteAt, twoAt}
+use lib.ListN.{set, take}
+use Rattle.base.specs.Numbers.{byteAt, lowAt}
 use Rattle.bits.specs.Payload.{setBit}
 use Rattle.plan.specs.Rows.{Claim}
 use Rattle.area.specs.Layout.{counterByte, orderByte, planLengthBytes, nodeCountByte, txCountBytes, rxCountBytes}
-use Rattle.area.specs.Layout.{queuesStart, txTimersStart, fullStart, entriesStart, planStart, queue, txPlace, row, spot}
-use Rattle.area.specs.Layout.{marked, counter, order, nodeCount, txCount, rxCount, rxRecordPlace, planOf, txFrame, rxFrame, claims}
+use Rattle.area.specs.Layout.{queuesStart, txReloadsStart, fullStart, entriesStart, planStart, planRoom, queue, txPlace, rxPlace, spot}
+use Rattle.area.specs.Layout.{marked, counter, order, nodeCount, txCount, rxCount, rxRecordPlace, planOf, stored, txFrame, rxFrame, claimsAt, claims}
 use Rattle.area.specs.Queue.{endsOf, queued, scheduled, dequeued}
 use Rattle.area.specs.Claims.{RxEvent, sentIf, done, allDone}
 use Rattle.area.proofs.Frame.{Same, same-refl, same-then, same-set, same-two, same-tail, Spared, Narrow, Each}
@@ -21,7 +21,7 @@ use Rattle.area.proofs.Frame.{spared-spot, spared-queued, spared-dequeu
 
 pub record Planned (j : ℕ) : Type 0 where
   pub ends : (n : ℕ) → n < 16 → queue n + 4 ≤ j → j < queue n + 8 → ⊥
-  pub low : txTimersStart ≤ j → j < fullStart → ⊥
+  pub low : txReloadsStart ≤ j → j < fullStart → ⊥
   pub high : entriesStart ≤ j → j < planStart → ⊥
   pub count : j ≡ counterByte → ⊥
 
@@ -57,7 +57,7 @@ pub kept-then : {a b c : List ℕ} → Kept a b → Kept b c → Kept a c
 kept-then = same-then
 
 -- a store at a timer, a count or a wait; at an entry, a payload or a mask; at the counter
-pub kept-low : {a b : List ℕ} (i v : ℕ) → txTimersStart ≤ i → i < fullStart → Kept a b → Kept a (set b i v)
+pub kept-low : {a b : List ℕ} (i v : ℕ) → txReloadsStart ≤ i → i < fullStart → Kept a b → Kept a (set b i v)
 kept-low i v l m = same-set i v (λ p. p .low l m)
 
 pub kept-high : {a b : List ℕ} (i v : ℕ) → entriesStart ≤ i → i < planStart → Kept a b → Kept a (set b i v)
@@ -113,10 +113,10 @@ module _ {a b : List ℕ} (k : Kept a b) where
   header : (j : ℕ) → j < queuesStart → (j ≡ counterByte → ⊥) → byteAt b j ≡ byteAt a j
   header j h d = k .at j (in-header j h d)
 
-  two : (j : ℕ) → counterByte < j → j + 1 < queuesStart → twoAt b j ≡ twoAt a j
+  two : (j : ℕ) → counterByte < j → j + 1 < queuesStart → lowAt b j ≡ lowAt a j
   two j h l = same-two k j (in-header j (omega arith) (λ e. omega arith)) (in-header (j + 1) (omega arith) (λ e. omega arith))
 
-  table : (j : ℕ) → fullStart ≤ j → j + 1 < entriesStart → twoAt b j ≡ twoAt a j
+  table : (j : ℕ) → fullStart ≤ j → j + 1 < entriesStart → lowAt b j ≡ lowAt a j
   table j h l = same-two k j (in-tables j h (omega arith)) (in-tables (j + 1) (omega arith) (omega arith))
 
   pub marked-kept : marked b ≡ marked a
@@ -149,18 +149,26 @@ module _ {a b : List ℕ} (k : Kept a b) where
   unfolding planOf
   planOf-kept = rw (two planLengthBytes (omega arith) (omega arith), same-tail planStart k in-plan)
 
+  pub stored-kept : stored b ≡ stored a
+  unfolding stored
+  stored-kept = ap (take planRoom) (same-tail planStart k in-plan)
+
   pub txFrame-kept : (t : ℕ) → t < 256 → txFrame b t ≡ txFrame a t
   unfolding txFrame
-  txFrame-kept t h = rw (planOf-kept, table (txPlace t) (omega arith) (omega arith))
+  txFrame-kept t h = rw (stored-kept, table (txPlace t) (omega arith) (omega arith))
+
+  pub claimsAt-kept : (r at : ℕ) → claimsAt b r at ≡ claimsAt a r at
+  unfolding claimsAt
+  claimsAt-kept r at = rw stored-kept
 
   module _ (r : ℕ) (h : r < 256) where
     place : rxRecordPlace b r ≡ rxRecordPlace a r
-    place = table (row r + 4) (omega arith) (omega arith)
+    place = rw (table (rxPlace r) (omega arith) (omega arith))
 
     pub rxFrame-kept : rxFrame b r ≡ rxFrame a r
     unfolding rxFrame
-    rxFrame-kept = rw (planOf-kept, place)
+    rxFrame-kept = rw (stored-kept, place)
 
     pub claims-kept : claims b r ≡ claims a r
     unfolding claims
-    claims-kept = rw (rxFrame-kept, planOf-kept, place)
+    claims-kept = ap (claimsAt b r) place ∙ claimsAt-kept r (rxRecordPlace a r)

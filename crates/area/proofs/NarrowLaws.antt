@@ -9,17 +9,17 @@ use lib.Seq.{getD-drop}
 use Rattle.base.proofs.Picks.{both}
 use Rattle.bits.proofs.PayloadLaws.{Bytes}
 use Rattle.records.specs.declared.record.Record.{Record}
-use Rattle.records.specs.Views.{onSignal, onDestination, asRx}
+use Rattle.records.specs.Views.{onSignal, onDestination}
 use Rattle.records.specs.Kinds.{rxAt}
 use Rattle.records.specs.Records.{recordAt, recordsFrom, recordsAt}
-use Rattle.records.proofs.RecordLaws.{by-record, rx-there}
+use Rattle.records.proofs.RecordLaws.{by-record}
 use Rattle.records.proofs.Variants.{by-row}
 use Rattle.plan.specs.Rows.{Claim, withFailure, claimsFrom, awaited}
-use Rattle.area.specs.Layout.{planStart, planLength, planOf, rxFrame, claims}
+use Rattle.area.specs.Layout.{planStart, planRoom, rxRecordPlace, stored, claimsAt, claims}
 use Rattle.area.proofs.Frame.{Each, Narrow}
 use Rattle.area.proofs.ClaimLaws.{narrow-copy, narrow-failure}
 
--- ---- the plan's bytes
+-- ---- the bytes of the part that holds the plan
 
 bytes-take : (n : ℕ) (l : List ℕ) → Bytes l → Bytes (take n l)
 bytes-take zero l b i = omega arith
@@ -27,9 +27,9 @@ bytes-take (suc n) [] b i = omega arith
 bytes-take (suc n) (x ∷ l) b zero = b 0
 bytes-take (suc n) (x ∷ l) b (suc i) = bytes-take n l (λ j. b (suc j)) i
 
-pub bytes-plan : (a : List ℕ) → Bytes a → Bytes (planOf a)
-unfolding planOf
-bytes-plan a b = bytes-take (planLength a) (drop planStart a) (λ i. rw (getD-drop planStart a i 0) (b (planStart + i)))
+pub bytes-stored : (a : List ℕ) → Bytes a → Bytes (stored a)
+unfolding stored
+bytes-stored a b = bytes-take planRoom (drop planStart a) (λ i. rw (getD-drop planStart a i 0) (b (planStart + i)))
 
 -- ---- a record of bytes
 
@@ -44,10 +44,6 @@ module _ (plan : List ℕ) (b : Bytes plan) where
   small-at : (at : ℕ) → Small (recordAt plan at)
   unfolding Small
   small-at at = by-record Small plan at (λ fault. tt) tt tt tt tt (b (at + 2)) (b (at + 3))
-
-  position-at : (at : ℕ) → asRx (recordAt plan at) .position < 256
-  unfolding rxAt
-  position-at at = rx-there (λ x. x .position < 256) plan at (omega arith) (b (at + 9))
 
   small-from : (bound at : ℕ) → Each Small (recordsFrom bound plan at)
   unfolding recordsFrom
@@ -70,8 +66,12 @@ narrow-from n w p s (r ∷ rs) h l e =
     (narrow-copy n (body .tx .0) (body .position) f p s (omega arith), narrow-from n none p s rs tt l (e .1)))
     (λ r no f. subst (Each Narrow) (sym (no .by _ _ _ _)) tt) r (e .0)
 
+-- the copies, and all
+pub narrow-copies : (a : List ℕ) (r at p s : ℕ) → s < 256 → Bytes a → Each Narrow (claimsFrom r none p s (recordsAt (stored a) at))
+unfolding recordsAt
+narrow-copies a r at p s l b = narrow-from r none p s _ tt l (small-from (stored a) (bytes-stored a b) _ _)
+
 pub narrow-claims : (a : List ℕ) (r : ℕ) → Bytes a → Each Narrow (claims a r)
-unfolding claims rxFrame recordsAt awaited
+unfolding claims claimsAt awaited rxAt
 narrow-claims a r b =
-    let p = bytes-plan a b in
-    narrow-from r _ 0 0 _ (both Within _ _ _ (position-at (planOf a) p _) tt) (omega arith) (small-from (planOf a) p _ _)
+    narrow-with r _ _ _ (both Within _ _ _ (bytes-stored a b (rxRecordPlace a r + 9)) tt) (narrow-copies a r _ 0 0 (omega arith) b)

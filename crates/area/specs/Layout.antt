@@ -3,17 +3,17 @@
 use Prim.Native.Nat.{ℕ, _+_, _*_, _%_, _≤_}
 use mathlib.Core.Bool.{Bool, false}
 use mathlib.Core.List.{List}
+use mathlib.Core.Option.{none}
 use lib.Dec.{leb, eqb}
 use lib.ListN.{length, take, drop}
 use Rattle.base.specs.Pick.{pick}
-use Rattle.base.specs.Numbers.{byteAt, twoAt}
+use Rattle.base.specs.Numbers.{byteAt, twoAt, lowAt, atMost}
 use Rattle.records.specs.declared.record.TxFrame.{TxFrame}
 use Rattle.records.specs.declared.record.RxFrame.{RxFrame}
-use Rattle.records.specs.Views.{asTx, asRx}
-use Rattle.records.specs.Kinds.{rxBytes}
-use Rattle.records.specs.Records.{recordAt, recordsAt}
+use Rattle.records.specs.Kinds.{txAt, rxAt, rxBytes, signalBytes}
+use Rattle.records.specs.Records.{recordsAt}
 use Rattle.plan.specs.Shortest.{shortestArea}
-use Rattle.plan.specs.Rows.{Claim, claimsFrom, awaited}
+use Rattle.plan.specs.Rows.{Claim, withFailure, claimsFrom, awaited}
 
 -- ---- the parts of the area, each by where it begins, in their order
 
@@ -50,11 +50,17 @@ nodesStart = 16
 abbrev pub queuesStart : ℕ
 queuesStart = 80
 
+abbrev pub txReloadsStart : ℕ
+txReloadsStart = 208
+
+abbrev pub rxReloadsStart : ℕ
+rxReloadsStart = 464
+
 abbrev pub txTimersStart : ℕ
-txTimersStart = 208
+txTimersStart = 720
 
 abbrev pub rxTimersStart : ℕ
-rxTimersStart = 720
+rxTimersStart = 976
 
 abbrev pub longStart : ℕ
 longStart = 1232
@@ -68,8 +74,11 @@ fullStart = 2000
 abbrev pub txPlacesStart : ℕ
 txPlacesStart = 2512
 
-abbrev pub rowsStart : ℕ
-rowsStart = 3024
+abbrev pub keysStart : ℕ
+keysStart = 3024
+
+abbrev pub rxPlacesStart : ℕ
+rxPlacesStart = 4048
 
 abbrev pub rowsEnd : ℕ
 rowsEnd = 4560
@@ -96,9 +105,13 @@ planStart = 8960
 abbrev pub planRoom : ℕ
 planRoom = 23808
 
--- how many bytes a row has, and a kept payload
-abbrev pub rowSize : ℕ
-rowSize = 6
+-- the last place in it at which an Rx frame with its first signal and destination has room
+abbrev pub lastPlace : ℕ
+lastPlace = 23790
+
+-- how many bytes a key has, and a kept payload
+abbrev pub keySize : ℕ
+keySize = 4
 
 abbrev pub payloadWidth : ℕ
 payloadWidth = 8
@@ -110,9 +123,12 @@ entryCount = 528
 abbrev pub mostRoom : ℕ
 mostRoom = 512
 
--- a lookup finds no row past this, whatever stands in the area: a node's first row is at most 256, and so is its row count
+-- a node's first row, and its row count, are below this, whatever stands in the area; and a lookup finds no row past their sum
+abbrev pub rowRange : ℕ
+rowRange = 512
+
 abbrev pub rowBound : ℕ
-rowBound = 512
+rowBound = 1024
 
 -- what every call but an opening needs of an area before it looks at a byte
 abbrev pub LongEnough : List ℕ → Type 0
@@ -130,11 +146,17 @@ node n = nodesStart + 4 * n
 abbrev pub queue : ℕ → ℕ
 queue n = queuesStart + 8 * n
 
+abbrev pub txReload : ℕ → ℕ
+txReload t = txReloadsStart + t
+
+abbrev pub rxReload : ℕ → ℕ
+rxReload r = rxReloadsStart + r
+
 abbrev pub txTimer : ℕ → ℕ
-txTimer t = txTimersStart + 2 * t
+txTimer t = txTimersStart + t
 
 abbrev pub rxTimer : ℕ → ℕ
-rxTimer r = rxTimersStart + 2 * r
+rxTimer r = rxTimersStart + r
 
 abbrev pub long : ℕ → ℕ
 long r = longStart + r
@@ -148,8 +170,11 @@ full t = fullStart + 2 * t
 abbrev pub txPlace : ℕ → ℕ
 txPlace t = txPlacesStart + 2 * t
 
-abbrev pub row : ℕ → ℕ
-row r = rowsStart + rowSize * r
+abbrev pub key : ℕ → ℕ
+key r = keysStart + keySize * r
+
+abbrev pub rxPlace : ℕ → ℕ
+rxPlace r = rxPlacesStart + 2 * r
 
 abbrev pub entry : ℕ → ℕ
 entry k = entriesStart + 2 * k
@@ -180,61 +205,71 @@ abbrev pub order : List ℕ → ℕ
 order a = byteAt a orderByte
 
 abbrev pub nodeCount : List ℕ → ℕ
-nodeCount a = byteAt a nodeCountByte % 17
+nodeCount a = atMost 16 (byteAt a nodeCountByte)
 
 abbrev pub txCount : List ℕ → ℕ
-txCount a = twoAt a txCountBytes % 257
+txCount a = atMost 256 (lowAt a txCountBytes)
 
 abbrev pub rxCount : List ℕ → ℕ
-rxCount a = twoAt a rxCountBytes % 257
+rxCount a = atMost 256 (lowAt a rxCountBytes)
 
 -- ---- what the tables of the frames say
 
 -- the first row of node n, and how many it has
 abbrev pub firstRow : List ℕ → ℕ → ℕ
-firstRow a n = twoAt a (node n) % 257
+firstRow a n = lowAt a (node n) % rowRange
 
 abbrev pub rowCount : List ℕ → ℕ → ℕ
-rowCount a n = twoAt a (node n + 2) % 257
+rowCount a n = lowAt a (node n + 2) % rowRange
 
--- the key of the i-th of some rows
+-- the key of row r
 abbrev pub keyAt : List ℕ → ℕ → ℕ
-keyAt rows i = twoAt rows (rowSize * i) * 65536 + twoAt rows (rowSize * i + 2)
+keyAt a r = lowAt a (key r + 2) * 65536 + lowAt a (key r)
 
 -- where the records of Tx frame t and Rx frame r begin in the plan
 abbrev pub txRecordPlace : List ℕ → ℕ → ℕ
-txRecordPlace a t = twoAt a (txPlace t)
+txRecordPlace a t = atMost lastPlace (lowAt a (txPlace t))
 
 abbrev pub rxRecordPlace : List ℕ → ℕ → ℕ
-rxRecordPlace a r = twoAt a (row r + 4)
+rxRecordPlace a r = atMost lastPlace (lowAt a (rxPlace r))
 
--- the signals of an Rx frame follow its record
-abbrev pub signalsPlace : List ℕ → ℕ → ℕ
-signalsPlace a r = rxRecordPlace a r + rxBytes
-
--- a size, brought into the range that a kept payload has
+-- a size, brought into range: of a plan's sizes each stays
 abbrev pub inWidth : ℕ → ℕ
-inWidth size = size % (payloadWidth + 1)
+inWidth size = size % 16
 
 -- how many bits of Tx frame t have an owner
 abbrev pub ownedBits : List ℕ → ℕ → ℕ
-ownedBits a t = twoAt a (full t) % 65
+ownedBits a t = atMost 64 (lowAt a (full t))
 
 -- ---- the plan, as it was opened
 
 abbrev pub planLength : List ℕ → ℕ
-planLength a = twoAt a planLengthBytes % (planRoom + 1)
+planLength a = atMost planRoom (lowAt a planLengthBytes)
 
 unfoldable pub planOf : List ℕ → List ℕ
 planOf a = take (planLength a) (drop planStart a)
 
+-- ---- what the plan says of the frames, read where it stands: no call needs its length, since zeros follow it
+
+-- the part of the area that holds the plan, with the zeros
+unfoldable pub stored : List ℕ → List ℕ
+stored a = take planRoom (drop planStart a)
+
 -- Tx frame t and Rx frame r, by the tables of places
 unfoldable pub txFrame : List ℕ → ℕ → TxFrame
-txFrame a t = asTx (recordAt (planOf a) (txRecordPlace a t))
+txFrame a t = txAt (stored a) (txRecordPlace a t)
 
 unfoldable pub rxFrame : List ℕ → ℕ → RxFrame
-rxFrame a r = asRx (recordAt (planOf a) (rxRecordPlace a r))
+rxFrame a r = rxAt (stored a) (rxRecordPlace a r)
 
--- the claims of Rx frame r
+-- the Tx frame of the first destination of the Rx frame whose record is at a place: one signal stands between the two
+abbrev pub failureTx : List ℕ → ℕ → ℕ
+failureTx a at = twoAt (stored a) (at + rxBytes + signalBytes + 1)
+
+-- the claims of the Rx frame r whose record is at a place: the failure bit, where its indicator is enabled, and then the copies
+unfoldable pub claimsAt : List ℕ → ℕ → ℕ → List Claim
+claimsAt a r at =
+    withFailure r (awaited (rxAt (stored a) at)) (failureTx a at) (claimsFrom r none 0 0 (recordsAt (stored a) (at + rxBytes)))
+
 unfoldable pub claims : List ℕ → ℕ → List Claim
-claims a r = claimsFrom r (awaited (rxFrame a r)) 0 0 (recordsAt (planOf a) (signalsPlace a r))
+claims a r = claimsAt a r (rxRecordPlace a r)

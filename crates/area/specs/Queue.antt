@@ -3,59 +3,67 @@
 use Prim.Native.Nat.{ℕ, zero, suc, _+_, _-_, _%_, _<_, _≤_}
 use mathlib.Core.Logic.{_⊎_}
 use mathlib.Core.List.{List, [], _∷_}
-use lib.Dec.{eqb}
+use lib.Dec.{ltb, eqb}
 use lib.ListN.{set}
 use Rattle.base.specs.Pick.{pick}
-use Rattle.base.specs.Numbers.{byteAt, twoAt, setTwo}
-use Rattle.area.specs.Layout.{entryCount, mostRoom, queue, entry, waits, txTimer, txFrame}
+use Rattle.base.specs.Numbers.{byteAt, lowAt, setLow, atMost}
+use Rattle.area.specs.Layout.{entryCount, mostRoom, queue, entry, waits, txReload, txTimer, txFrame}
 use Rattle.area.specs.declared.queue.Ends.{Ends}
 
 -- how many entries node n's ring has room for
 abbrev pub roomOf : List ℕ → ℕ → ℕ
-roomOf a n = twoAt a (queue n + 2) % mostRoom + 1
+roomOf a n = lowAt a (queue n + 2) % mostRoom + 1
 
 unfoldable pub endsOf : List ℕ → ℕ → Ends
 endsOf a n =
     record {
-      start = twoAt a (queue n);
+      start = lowAt a (queue n);
       room = roomOf a n;
-      first = twoAt a (queue n + 4);
-      waiting = twoAt a (queue n + 6);
+      first = lowAt a (queue n + 4);
+      waiting = lowAt a (queue n + 6);
     }
 
--- the place of the entry that is k behind the oldest
-unfoldable pub slot : Ends → ℕ → ℕ
-slot e k = entry ((e .start + (e .first + k) % e .room) % entryCount)
+-- the place in a ring that is k past `first`, once round at the most
+unfoldable pub past : ℕ → ℕ → ℕ → ℕ
+past first k room = pick (ltb (first + k) room) (first + k) (first + k - room)
 
--- the Tx frame that it names
+-- where entry i of a ring stands in the area
+unfoldable pub slot : Ends → ℕ → ℕ
+slot e i = entry (atMost (entryCount - 1) (e .start + i))
+
+-- the entry that is k behind the oldest
+abbrev pub behind : Ends → ℕ → ℕ
+behind e k = past (e .first) k (e .room)
+
+-- the Tx frame that entry i names
 abbrev pub entryAt : List ℕ → Ends → ℕ → ℕ
-entryAt a e k = twoAt a (slot e k) % 256
+entryAt a e i = lowAt a (slot e i) % 256
 
 -- "Adding to and taking from a queue each give the queue as it then is."
 unfoldable pub added : Ends → Ends
 added e = record { start = e .start; room = e .room; first = e .first; waiting = e .waiting + 1 }
 
 unfoldable pub removed : Ends → Ends
-removed e = record { start = e .start; room = e .room; first = (e .first + 1) % e .room; waiting = e .waiting - 1 }
+removed e = record { start = e .start; room = e .room; first = past (e .first) 1 (e .room); waiting = e .waiting - 1 }
 
 unfoldable pub setEnds : List ℕ → ℕ → Ends → List ℕ
-setEnds a n e = setTwo (setTwo a (queue n + 4) (e .first)) (queue n + 6) (e .waiting)
+setEnds a n e = setLow (setLow a (queue n + 4) (e .first)) (queue n + 6) (e .waiting)
 
 -- Tx frame t at the end of node n's queue
 unfoldable pub queued : List ℕ → ℕ → ℕ → List ℕ
-queued a n t = setEnds (setTwo a (slot (endsOf a n) (endsOf a n .waiting)) t) n (added (endsOf a n))
+queued a n t = setEnds (setLow a (slot (endsOf a n) (behind (endsOf a n) (endsOf a n .waiting))) t) n (added (endsOf a n))
 
 -- "Scheduling a frame already waiting changes nothing. Otherwise the frame joins its node's queue at the end and its Tx timer takes its reload
 -- value."
 unfoldable pub scheduled : List ℕ → ℕ → List ℕ
 scheduled a t =
     pick (eqb (byteAt a (waits t)) 0)
-    (set (set (queued a (txFrame a t .node % 16) t) (waits t) 1) (txTimer t + 1) (byteAt a (txTimer t)))
+    (set (set (queued a (txFrame a t .node % 16) t) (waits t) 1) (txTimer t) (byteAt a (txReload t)))
     a
 
 -- the oldest waiting frame of node n
 unfoldable pub oldest : List ℕ → ℕ → ℕ
-oldest a n = entryAt a (endsOf a n) 0
+oldest a n = entryAt a (endsOf a n) (endsOf a n .first)
 
 -- the area without it: it "then waits no more"
 unfoldable pub dequeued : List ℕ → ℕ → List ℕ
@@ -66,7 +74,7 @@ dequeued a n = set (setEnds a n (removed (endsOf a n))) (waits (oldest a n)) 0
 -- c entries of a ring, from the one that is k behind the oldest on
 unfoldable pub entries : List ℕ → Ends → ℕ → ℕ → List ℕ
 entries a e k zero = []
-entries a e k (suc c) = entryAt a e k ∷ entries a e (suc k) c
+entries a e k (suc c) = entryAt a e (behind e k) ∷ entries a e (suc k) c
 
 -- the frames that wait on node n, the oldest first
 unfoldable pub queueOf : List ℕ → ℕ → List ℕ

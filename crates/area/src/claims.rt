@@ -1,16 +1,18 @@
 // What an accepted payload and an expired timer do to the bits that an Rx frame owns in the kept payloads.
-use crate::frames::tx_frame;
+use crate::frames::failure_tx;
+use crate::frames::rx_enable;
+use crate::frames::rx_position;
+use crate::frames::tx_flags;
 use crate::layout::PAYLOADS_START;
-use crate::layout::in_range;
 use crate::queue::schedule;
 use records::record::TxNumber;
 ghost use mathlib.Core.Path.{_≡_};
-ghost use Prim.Native.Nat.{_%_, _<_};
+ghost use Prim.Native.Nat.{_≤_, _<_};
 ghost use lib.ListN.{length};
-ghost use Rattle.bits.specs.Payload.{setBit};
+ghost use Rattle.records.specs.Kinds.{rxAt};
 ghost use Rattle.plan.specs.Rows.{copy};
-ghost use Rattle.area.specs.Layout.{LongEnough, spot};
-ghost use Rattle.area.specs.Claims.{accepted, sentIf, done};
+ghost use Rattle.area.specs.Layout.{lastPlace, LongEnough, stored};
+ghost use Rattle.area.specs.Claims.{accepted, sentIf, done, failureWritten};
 
 // Tx frame `t` is scheduled where its flags say so: 1 always, 2 where a bit of it changed.
 fn send_if(flags: u8, changed: bool, area: &mut [u8], t: TxNumber)
@@ -28,12 +30,17 @@ fn send_if(flags: u8, changed: bool, area: &mut [u8], t: TxNumber)
     }
 }
 
-// The failure bit at position `q` of a Tx frame's payload becomes `v`. That schedules nothing.
-pub fn set_failure(order: u8, area: &mut [u8], tx: TxNumber, q: usize, v: u8)
-    requires { ⌜ (v < 2) × (q < 256) × LongEnough (now area) ⌝ }
-    ensures { λ r. ⌜ now (area .exit) ≡ setBit order (now (area .entry)) (spot (tx .0 % 256) q) v ⌝ }
+// The failure bit of the Rx frame whose record is at `at` becomes `v`, where its indicator is enabled. That schedules nothing.
+pub fn write_failure(order: u8, v: u8, area: &mut [u8], at: usize)
+    requires { ⌜ (v < 2) × (at ≤ lastPlace) × LongEnough (now area) ⌝ }
+    ensures bytes { λ r. ⌜ now (area .exit) ≡ failureWritten order v (now (area .entry)) at ⌝ }
+    ensures narrow { λ r. ⌜ rxAt (stored (now (area .entry))) at .position < 256 ⌝ }
 {
-    bits::payload::write_bit(order, area, 8 * PAYLOADS_START + 64 * (tx.0 % 256) + q, v);
+    let q = rx_position(area, at);
+    if rx_enable(area, at) == 1 {
+        let t = failure_tx(area, at);
+        bits::payload::write_bit(order, area, 8 * PAYLOADS_START + 64 * t.0 + q, v);
+    }
 }
 
 // A signal of an accepted payload, position `p` and size `s`, goes to position `q` of a Tx frame's payload.
@@ -43,15 +50,14 @@ pub fn copy_claim(
     p: usize,
     s: usize,
     area: &mut [u8],
-    tx: TxNumber,
+    t: TxNumber,
     q: usize,
 )
-    requires { ⌜ (length (now source) ≡ 64) × (p < 256) × (s < 256) × (q < 256) × LongEnough (now area) ⌝ }
+    requires { ⌜ (length (now source) ≡ 64) × (p < 256) × (s < 256) × (t .0 < 256) × (q < 256) × LongEnough (now area) ⌝ }
     ensures { λ r. ⌜ now (area .exit) ≡
-        done order (accepted 0 (now (source .entry))) (now (area .entry)) (record { rx = 0; tx = tx .0; at = q; from = copy p s }) ⌝ }
+        done order (accepted 0 (now (source .entry))) (now (area .entry)) (record { rx = 0; tx = t .0; at = q; from = copy p s }) ⌝ }
 {
-    let t = in_range(tx);
-    let frame = tx_frame(area, t);
+    let flags = tx_flags(area, t);
     let changed = bits::payload::copy_signal(
         order,
         source,
@@ -60,5 +66,5 @@ pub fn copy_claim(
         area,
         8 * PAYLOADS_START + 64 * t.0 + q,
     );
-    send_if(frame.flags, changed, area, t);
+    send_if(flags, changed, area, t);
 }

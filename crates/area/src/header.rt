@@ -1,53 +1,49 @@
 // The area's header.
 use crate::layout::AREA_LENGTH;
 use crate::layout::NODE_COUNT_BYTE;
-use crate::layout::PLAN_LENGTH_BYTES;
-use crate::layout::PLAN_ROOM;
 use crate::layout::RX_COUNT_BYTES;
 use crate::layout::TX_COUNT_BYTES;
+use base::at_most;
+use base::wide;
 ghost use mathlib.Core.Path.{_≡_};
 ghost use mathlib.Core.Bool.{true};
 ghost use Prim.Native.Nat.{_≤_, _<_};
-ghost use Rattle.area.specs.Layout.{planRoom, LongEnough, marked, nodeCount, txCount, rxCount, planLength};
+ghost use lib.Dec.{ltb};
+ghost use Rattle.area.specs.Layout.{LongEnough, marked, nodeCount, txCount, rxCount};
 
-// Whether an area was opened: it is long enough and bears the mark.
+// Whether an area was opened: it is long enough and bears the mark, hex 47 and then 57.
 pub fn is_marked(area: &[u8]) -> bool
     ensures { λ r. ⌜ (r ≡ marked (now (area .entry))) × (r ≡ true → LongEnough (now (area .entry))) ⌝ }
 {
     if area.len() < AREA_LENGTH {
         return false;
     }
-    if area[0] == 0x47 {
-        return area[1] == 0x57;
+    let low = wide(area[0]);
+    let high = wide(area[1]);
+    high * 256 + low == 0x5747
+}
+
+// Whether there is a node `n`.
+pub fn has_node(area: &[u8], n: usize) -> bool
+    requires { ⌜ LongEnough (now area) ⌝ }
+    ensures { λ r. ⌜ (r ≡ ltb n (nodeCount (now (area .entry)))) × (r ≡ true → n < 16) ⌝ }
+{
+    if n < 16 {
+        return n < wide(area[NODE_COUNT_BYTE]);
     }
     false
 }
 
-pub fn node_count(area: &[u8]) -> usize
-    requires { ⌜ LongEnough (now area) ⌝ }
-    ensures { λ r. ⌜ (r ≡ nodeCount (now (area .entry))) × (r < 17) ⌝ }
-{
-    base::wide(area[NODE_COUNT_BYTE] % 17)
-}
-
 pub fn tx_count(area: &[u8]) -> usize
     requires { ⌜ LongEnough (now area) ⌝ }
-    ensures { λ r. ⌜ (r ≡ txCount (now (area .entry))) × (r < 257) ⌝ }
+    ensures { λ r. ⌜ (r ≡ txCount (now (area .entry))) × (r ≤ 256) ⌝ }
 {
-    base::two_at(area, TX_COUNT_BYTES) % 257
+    at_most(256, base::low_at(area, TX_COUNT_BYTES))
 }
 
 pub fn rx_count(area: &[u8]) -> usize
     requires { ⌜ LongEnough (now area) ⌝ }
-    ensures { λ r. ⌜ (r ≡ rxCount (now (area .entry))) × (r < 257) ⌝ }
+    ensures { λ r. ⌜ (r ≡ rxCount (now (area .entry))) × (r ≤ 256) ⌝ }
 {
-    base::two_at(area, RX_COUNT_BYTES) % 257
-}
-
-// How many bytes the plan has that stands in the area.
-pub fn plan_length(area: &[u8]) -> usize
-    requires { ⌜ LongEnough (now area) ⌝ }
-    ensures { λ r. ⌜ (r ≡ planLength (now (area .entry))) × (r ≤ planRoom) ⌝ }
-{
-    base::two_at(area, PLAN_LENGTH_BYTES) % (PLAN_ROOM + 1)
+    at_most(256, base::low_at(area, RX_COUNT_BYTES))
 }

@@ -3,8 +3,9 @@
 use records::record::RxNumber;
 use records::record::TxNumber;
 ghost use mathlib.Core.Path.{_≡_};
-ghost use Prim.Native.Nat.{_%_, _≤_, _<_};
-ghost use Rattle.area.specs.Layout.{payloadWidth, rowBound, node, queue, txTimer, rxTimer, long, full, txPlace, row, payload, txMask, rxMask, inWidth};
+ghost use Prim.Native.Nat.{_%_, _<_};
+ghost use Rattle.area.specs.Layout.{rowBound, node, queue, txReload, rxReload, txTimer, rxTimer, long, full};
+ghost use Rattle.area.specs.Layout.{txPlace, key, rxPlace, payload, txMask, rxMask, inWidth};
 
 pub const AREA_LENGTH: usize = 32768;
 
@@ -26,9 +27,13 @@ pub const NODES_START: usize = 16;
 
 pub const QUEUES_START: usize = 80;
 
-pub const TX_TIMERS_START: usize = 208;
+pub const TX_RELOADS_START: usize = 208;
 
-pub const RX_TIMERS_START: usize = 720;
+pub const RX_RELOADS_START: usize = 464;
+
+pub const TX_TIMERS_START: usize = 720;
+
+pub const RX_TIMERS_START: usize = 976;
 
 pub const LONG_START: usize = 1232;
 
@@ -38,7 +43,9 @@ pub const FULL_START: usize = 2000;
 
 pub const TX_PLACES_START: usize = 2512;
 
-pub const ROWS_START: usize = 3024;
+pub const KEYS_START: usize = 3024;
+
+pub const RX_PLACES_START: usize = 4048;
 
 pub const ENTRIES_START: usize = 5328;
 
@@ -53,8 +60,11 @@ pub const PLAN_START: usize = 8960;
 
 pub const PLAN_ROOM: usize = 23808;
 
-// how many bytes a row has, and a kept payload
-pub const ROW_SIZE: usize = 6;
+// the last place in it at which an Rx frame with its first signal and destination has room
+pub const LAST_PLACE: usize = 23790;
+
+// how many bytes a key has, and a kept payload
+pub const KEY_SIZE: usize = 4;
 
 pub const PAYLOAD_WIDTH: usize = 8;
 
@@ -63,6 +73,11 @@ pub const ENTRY_COUNT: usize = 528;
 
 pub const MOST_ROOM: usize = 512;
 
+// a node's first row, and its row count, are below this; and a lookup finds no row past their sum
+pub const ROW_RANGE: usize = 512;
+
+pub const ROW_BOUND: usize = 1024;
+
 // A Tx number as a plan's record or a caller gave it, brought into range.
 pub fn in_range(t: TxNumber) -> TxNumber
     ensures { λ r. ⌜ (r .0 ≡ t .0 % 256) × (r .0 < 256) ⌝ }
@@ -70,11 +85,11 @@ pub fn in_range(t: TxNumber) -> TxNumber
     TxNumber(t.0 % 256)
 }
 
-// A size, brought into the range that a kept payload has.
+// A size, brought into range.
 pub fn in_width(size: usize) -> usize
-    ensures { λ r. ⌜ (r ≡ inWidth size) × (r ≤ payloadWidth) ⌝ }
+    ensures { λ r. ⌜ (r ≡ inWidth size) × (r < 16) ⌝ }
 {
-    size % (PAYLOAD_WIDTH + 1)
+    size % 16
 }
 
 // The place of each entry, by the number of its node, Tx frame or Rx frame.
@@ -92,19 +107,32 @@ pub fn queue(n: usize) -> usize
     QUEUES_START + 8 * n
 }
 
-// the reload value; the count is behind it
+pub fn tx_reload(t: TxNumber) -> usize
+    requires { ⌜ t .0 < 256 ⌝ }
+    ensures { λ p. ⌜ p ≡ txReload (t .0) ⌝ }
+{
+    TX_RELOADS_START + t.0
+}
+
+pub fn rx_reload(r: RxNumber) -> usize
+    requires { ⌜ r .0 < rowBound ⌝ }
+    ensures { λ p. ⌜ p ≡ rxReload (r .0) ⌝ }
+{
+    RX_RELOADS_START + r.0
+}
+
 pub fn tx_timer(t: TxNumber) -> usize
     requires { ⌜ t .0 < 256 ⌝ }
     ensures { λ p. ⌜ p ≡ txTimer (t .0) ⌝ }
 {
-    TX_TIMERS_START + 2 * t.0
+    TX_TIMERS_START + t.0
 }
 
 pub fn rx_timer(r: RxNumber) -> usize
     requires { ⌜ r .0 < rowBound ⌝ }
     ensures { λ p. ⌜ p ≡ rxTimer (r .0) ⌝ }
 {
-    RX_TIMERS_START + 2 * r.0
+    RX_TIMERS_START + r.0
 }
 
 pub fn long(r: RxNumber) -> usize
@@ -128,11 +156,18 @@ pub fn tx_place(t: TxNumber) -> usize
     TX_PLACES_START + 2 * t.0
 }
 
-pub fn row(r: RxNumber) -> usize
+pub fn key(r: RxNumber) -> usize
     requires { ⌜ r .0 < rowBound ⌝ }
-    ensures { λ p. ⌜ p ≡ row (r .0) ⌝ }
+    ensures { λ p. ⌜ p ≡ key (r .0) ⌝ }
 {
-    ROWS_START + ROW_SIZE * r.0
+    KEYS_START + KEY_SIZE * r.0
+}
+
+pub fn rx_place(r: RxNumber) -> usize
+    requires { ⌜ r .0 < rowBound ⌝ }
+    ensures { λ p. ⌜ p ≡ rxPlace (r .0) ⌝ }
+{
+    RX_PLACES_START + 2 * r.0
 }
 
 pub fn payload(t: TxNumber) -> usize

@@ -1,16 +1,18 @@
 // A node's queue and scheduling.
-use crate::frames::tx_frame;
+use crate::frames::tx_node;
 use crate::layout::ENTRIES_START;
 use crate::layout::ENTRY_COUNT;
 use crate::layout::MOST_ROOM;
 use crate::layout::QUEUES_START;
+use crate::layout::TX_RELOADS_START;
 use crate::layout::TX_TIMERS_START;
 use crate::layout::WAITS_START;
+use base::at_most;
 use records::record::TxNumber;
 ghost use mathlib.Core.Path.{_≡_};
 ghost use Prim.Native.Nat.{_+_, _≤_, _<_};
 ghost use Rattle.area.specs.Layout.{payloadsStart, mostRoom, LongEnough};
-ghost use Rattle.area.specs.Queue.{endsOf, slot, entryAt, added, removed, setEnds, queued, scheduled, oldest, dequeued};
+ghost use Rattle.area.specs.Queue.{endsOf, past, slot, entryAt, added, removed, setEnds, queued, scheduled, oldest, dequeued};
 
 // The ends of a queue: where its ring begins, how many entries the ring has room for, where the oldest is, and how many wait.
 pub struct Ends {
@@ -18,6 +20,18 @@ pub struct Ends {
     pub room: usize,
     pub first: usize,
     pub waiting: usize,
+}
+
+// The place in a ring of `room` entries that is `k` past `first`, once round at the most.
+fn past(first: usize, k: usize, room: usize) -> usize
+    requires { ⌜ (first < 65536) × (k < 65536) ⌝ }
+    ensures { λ i. ⌜ (i ≡ past first k room) × (i < 131072) ⌝ }
+{
+    let next = first + k;
+    if next < room {
+        return next;
+    }
+    next - room
 }
 
 impl Ends {
@@ -36,13 +50,13 @@ impl Ends {
 
     // The queue without its oldest frame.
     pub fn take(self) -> Ends
-        requires { ⌜ (0 < self .waiting) × (0 < self .room) × (self .first < 65536) ⌝ }
+        requires { ⌜ (0 < self .waiting) × (self .first < 65536) ⌝ }
         ensures { λ r. ⌜ r ≡ removed self ⌝ }
     {
         Ends {
             start: self.start,
             room: self.room,
-            first: (self.first + 1) % self.room,
+            first: past(self.first, 1, self.room),
             waiting: self.waiting - 1,
         }
     }
@@ -52,13 +66,13 @@ impl Ends {
 pub fn ends_at(area: &[u8], n: usize) -> Ends
     requires { ⌜ (n < 16) × LongEnough (now area) ⌝ }
     ensures { λ r. ⌜ (r ≡ endsOf (now (area .entry)) n) ×
-        (0 < r .room) × (r .room ≤ mostRoom) × (r .first < 65536) × (r .waiting < 65536) × (r .start < 65536) ⌝ }
+        (r .room ≤ mostRoom) × (r .first < 65536) × (r .waiting < 65536) × (r .start < 65536) ⌝ }
 {
     let at = QUEUES_START + 8 * n;
-    let start = base::two_at(area, at);
-    let room = base::two_at(area, at + 2) % MOST_ROOM + 1;
-    let first = base::two_at(area, at + 4);
-    let waiting = base::two_at(area, at + 6);
+    let start = base::low_at(area, at);
+    let room = base::low_at(area, at + 2) % MOST_ROOM + 1;
+    let first = base::low_at(area, at + 4);
+    let waiting = base::low_at(area, at + 6);
     Ends {
         start,
         room,
@@ -73,16 +87,16 @@ fn put_ends(area: &mut [u8], n: usize, e: Ends)
     ensures { λ r. ⌜ now (area .exit) ≡ setEnds (now (area .entry)) n e ⌝ }
 {
     let at = QUEUES_START + 8 * n;
-    base::put_two(area, at + 4, e.first);
-    base::put_two(area, at + 6, e.waiting);
+    base::put_low(area, at + 4, e.first);
+    base::put_low(area, at + 6, e.waiting);
 }
 
-// The place of the entry that is `k` behind the oldest.
-fn slot_of(e: Ends, k: usize) -> usize
-    requires { ⌜ (0 < e .room) × (e .first < 65536) × (e .start < 65536) × (k < 65536) ⌝ }
-    ensures { λ r. ⌜ (r ≡ slot e k) × (r + 1 < payloadsStart) ⌝ }
+// Where entry `i` of a ring stands in the area.
+fn slot_of(e: Ends, i: usize) -> usize
+    requires { ⌜ (e .start < 65536) × (i < 131072) ⌝ }
+    ensures { λ r. ⌜ (r ≡ slot e i) × (r + 1 < payloadsStart) ⌝ }
 {
-    ENTRIES_START + 2 * ((e.start + (e.first + k) % e.room) % ENTRY_COUNT)
+    ENTRIES_START + 2 * at_most(ENTRY_COUNT - 1, e.start + i)
 }
 
 // Tx frame `t` joins node `n`'s queue at the end.
@@ -91,8 +105,8 @@ fn enqueue(area: &mut [u8], n: usize, t: TxNumber)
     ensures { λ r. ⌜ now (area .exit) ≡ queued (now (area .entry)) n (t .0) ⌝ }
 {
     let e = ends_at(area, n);
-    let at = slot_of(e, e.waiting);
-    base::put_two(area, at, t.0);
+    let at = slot_of(e, past(e.first, e.waiting, e.room));
+    base::put_low(area, at, t.0);
     put_ends(area, n, e.add());
 }
 
@@ -102,27 +116,26 @@ pub fn schedule(area: &mut [u8], t: TxNumber)
     ensures { λ r. ⌜ now (area .exit) ≡ scheduled (now (area .entry)) (t .0) ⌝ }
 {
     if area[WAITS_START + t.0] == 0 {
-        let frame = tx_frame(area, t);
-        let n = base::wide(frame.node % 16);
-        let reload = area[TX_TIMERS_START + 2 * t.0];
+        let n = tx_node(area, t);
+        let reload = area[TX_RELOADS_START + t.0];
         enqueue(area, n, t);
         area[WAITS_START + t.0] = 1;
-        area[TX_TIMERS_START + 2 * t.0 + 1] = reload;
+        area[TX_TIMERS_START + t.0] = reload;
     }
 }
 
 // The oldest frame that waits in a queue with these ends.
 pub fn oldest_of(area: &[u8], e: Ends) -> TxNumber
-    requires { ⌜ (0 < e .room) × (e .first < 65536) × (e .start < 65536) × LongEnough (now area) ⌝ }
-    ensures { λ t. ⌜ (t .0 ≡ entryAt (now (area .entry)) e 0) × (t .0 < 256) ⌝ }
+    requires { ⌜ (e .first < 65536) × (e .start < 65536) × LongEnough (now area) ⌝ }
+    ensures { λ t. ⌜ (t .0 ≡ entryAt (now (area .entry)) e (e .first)) × (t .0 < 256) ⌝ }
 {
-    TxNumber(base::two_at(area, slot_of(e, 0)) % 256)
+    TxNumber(base::low_at(area, slot_of(e, e.first)) % 256)
 }
 
 // The oldest frame, `t`, leaves node `n`'s queue, whose ends are `e`, and waits no more.
 pub fn dequeue(area: &mut [u8], n: usize, e: Ends, t: TxNumber)
     requires { ⌜ (n < 16) × LongEnough (now area) ×
-        (e ≡ endsOf (now area) n) × (t .0 ≡ oldest (now area) n) × (t .0 < 256) × (0 < e .waiting) × (0 < e .room) × (e .first < 65536) ⌝ }
+        (e ≡ endsOf (now area) n) × (t .0 ≡ oldest (now area) n) × (t .0 < 256) × (0 < e .waiting) × (e .first < 65536) ⌝ }
     ensures { λ r. ⌜ now (area .exit) ≡ dequeued (now (area .entry)) n ⌝ }
 {
     put_ends(area, n, e.take());

@@ -1,7 +1,9 @@
--- "Two-byte numbers have the high byte first."
+-- Numbers of bytes. "Two-byte numbers have the high byte first.": that is a plan's; those of the area have the low byte first.
 use Prim.Native.Nat.{ℕ, _+_, _*_, _/_, _%_, _<_}
 use mathlib.Core.List.{List}
+use lib.Dec.{ltb}
 use lib.ListN.{getD, set}
+use Rattle.base.specs.Pick.{pick}
 
 -- the byte at a place, and 0 past the end
 abbrev pub byteAt : List ℕ → ℕ → ℕ
@@ -15,6 +17,14 @@ Bytes s = (k : ℕ) → byteAt s k < 256
 abbrev pub twoAt : List ℕ → ℕ → ℕ
 twoAt s k = byteAt s k * 256 + byteAt s (k + 1)
 
--- the bytes with a two-byte number stored at a place
-abbrev pub setTwo : List ℕ → ℕ → ℕ → List ℕ
-setTwo s k v = set (set s k (v / 256 % 256)) (k + 1) (v % 256)
+-- the same with the low byte first
+abbrev pub lowAt : List ℕ → ℕ → ℕ
+lowAt s k = byteAt s (k + 1) * 256 + byteAt s k
+
+-- the bytes with such a number stored at a place
+abbrev pub setLow : List ℕ → ℕ → ℕ → List ℕ
+setLow s k v = set (set s k (v % 256)) (k + 1) (v / 256 % 256)
+
+-- a number, or the most that it may be
+unfoldable pub atMost : ℕ → ℕ → ℕ
+atMost most n = pick (ltb n most) n most

@@ -1,8 +1,8 @@
-// What every crate above uses: a byte as a wide number, and a number of two bytes.
+// What every crate above uses: a byte as a wide number, numbers of two bytes, and a number brought into range.
 ghost use mathlib.Core.Path.{_≡_};
 ghost use Prim.Native.Nat.{_+_, _≤_, _<_};
 ghost use lib.ListN.{length};
-ghost use Rattle.base.specs.Numbers.{twoAt, setTwo};
+ghost use Rattle.base.specs.Numbers.{twoAt, lowAt, setLow, atMost};
 
 // A byte, wide enough to be an index.
 pub fn wide(byte: u8) -> usize
@@ -19,11 +19,29 @@ pub fn two_at(bytes: &[u8], at: usize) -> usize
     wide(bytes[at]) * 256 + wide(bytes[at + 1])
 }
 
-// The two bytes from `at` on become the number, the high byte first.
-pub fn put_two(bytes: &mut [u8], at: usize, v: usize)
+// The number in the two bytes from `at` on, the low byte first.
+pub fn low_at(bytes: &[u8], at: usize) -> usize
     requires { ⌜ at + 2 ≤ length (now bytes) ⌝ }
-    ensures { λ r. ⌜ now (bytes .exit) ≡ setTwo (now (bytes .entry)) at v ⌝ }
+    ensures { λ r. ⌜ (r ≡ lowAt (now (bytes .entry)) at) × (r < 65536) ⌝ }
 {
-    bytes[at] = (v / 256 % 256) as u8;
-    bytes[at + 1] = (v % 256) as u8;
+    wide(bytes[at + 1]) * 256 + wide(bytes[at])
+}
+
+// The two bytes from `at` on become the number, the low byte first.
+pub fn put_low(bytes: &mut [u8], at: usize, v: usize)
+    requires { ⌜ at + 2 ≤ length (now bytes) ⌝ }
+    ensures { λ r. ⌜ now (bytes .exit) ≡ setLow (now (bytes .entry)) at v ⌝ }
+{
+    bytes[at] = (v % 256) as u8;
+    bytes[at + 1] = (v / 256 % 256) as u8;
+}
+
+// A number, or the most that it may be.
+pub fn at_most(most: usize, n: usize) -> usize
+    ensures { λ r. ⌜ (r ≡ atMost most n) × (r ≤ most) ⌝ }
+{
+    if n < most {
+        return n;
+    }
+    most
 }

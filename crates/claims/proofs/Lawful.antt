@@ -18,7 +18,7 @@ use Rattle.claims.specs.Claims.{Whole, Own, Indicated, Framed, Lawful}
 use Rattle.claims.proofs.OfKind.{named, on-own}
 use Rattle.claims.proofs.Splits.{behind, instead}
 
-in-place-whole : (stage : ℕ) (rs : List Record) → InPlace stage rs → Each Whole rs
+pub in-place-whole : (stage : ℕ) (rs : List Record) → InPlace stage rs → Each Whole rs
 unfolding InPlace Each isWhole
 in-place-whole stage [] h = tt
 in-place-whole stage (r ∷ rs) h = ((λ kind e. true≢false (sym (h .0 .whole) ∙ ap isWhole e)), in-place-whole (stageOf r) rs (h .1))
@@ -34,7 +34,7 @@ along-past P [] r rest h = h .0
 along-past P (y ∷ front) r rest h = along-past P front r rest (h .1)
 
 -- a signal and a destination by their kinds
-indicated-by : (since : List Record) → Each Whole since → stageAt 0 since ≡ 5 → stageAt 1 since ≡ 6 → Indicated since
+pub indicated-by : (since : List Record) → Each Whole since → stageAt 0 since ≡ 5 → stageAt 1 since ≡ 6 → Indicated since
 unfolding Each stageOf
 indicated-by [] w a b = absurd (omega arith)
 indicated-by (r ∷ []) w a b = absurd (omega arith)

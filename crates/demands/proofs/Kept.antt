@@ -9,11 +9,12 @@ use lib.Dec.{leb, ltb}
 use lib.ListN.{length}
 use Rattle.base.specs.Numbers.{byteAt, Bytes}
 use Rattle.base.proofs.Picks.{both, cases}
+use Rattle.base.proofs.Ranges.{at-most-le}
 use Rattle.plan.specs.declared.verdict.Verdict.{Verdict}
 use Rattle.plan.specs.declared.verdict.Verdict.the-variants as verdict
 use Rattle.plan.specs.Check.{checkPlan}
 use Rattle.facts.proofs.Bounds.{good-bounds}
-use Rattle.area.specs.Layout.{areaLength, marked, nodeCount}
+use Rattle.area.specs.Layout.{areaLength, nodeCountByte, marked, nodeCount}
 use Rattle.area.proofs.Kept.{Kept, kept-refl, kept-dequeued, in-plan, marked-kept}
 use Rattle.answers.specs.declared.Opened.{Opened}
 use Rattle.opening.specs.Opened.{openedAnswer, openedArea}
@@ -40,7 +41,7 @@ unfolding takenArea oldestArea
 kept-taken a n =
     both (Kept a) (marked a) _ _
     (cases (Kept a) (ltb n (nodeCount a)) _ _
-    (λ t. let h = ltb-true n (nodeCount a) t in both (Kept a) _ _ _ (kept-refl a) (kept-dequeued a n (omega arith)))
+    (λ t. let h = ltb-true n (nodeCount a) t in both (Kept a) _ _ _ (kept-refl a) (kept-dequeued a n (omega (arith, at-most-le 16 (byteAt a nodeCountByte)))))
     (λ t. kept-refl a))
     (kept-refl a)
 

@@ -1,17 +1,18 @@
 -- What queues and timers leave, over any set of places P that names none of theirs, nor a payload where claims are acted on.
-use mathlib.Core.Path.{_≡_}
 use mathlib.Core.Bool.{Bool}
 use mathlib.Core.List.{List, [], _∷_}
-use Prim.Native.Nat.{ℕ, zero, suc, _+_, _%_, _<_, _≤_}
+use Prim.Native.Nat.{ℕ, zero, suc, _<_, _≤_}
 use native.Mathlib.Omega.{arith}
 use lib.Dec.{ltb}
 use lib.ListN.{set}
 use borrow.Author.Tests.{ltb-true}
+use Rattle.base.specs.Numbers.{byteAt}
 use Rattle.base.proofs.Picks.{cases}
+use Rattle.base.proofs.Ranges.{at-most-le}
 use Rattle.plan.specs.Rows.{Claim}
 use Rattle.facts.specs.Good.{Each}
 use Rattle.facts.specs.Statements.{Small}
-use Rattle.area.specs.Layout.{txTimersStart, longStart, fullStart, payloadsStart, txMasksStart, txTimer, waits, nodeCount}
+use Rattle.area.specs.Layout.{txTimersStart, longStart, fullStart, payloadsStart, txMasksStart, nodeCountByte, txReload, txTimer, waits, nodeCount}
 use Rattle.area.specs.Queue.{scheduled, oldest, dequeued}
 use Rattle.area.specs.Claims.{RxEvent, sentIf, allDone}
 use Rattle.area.proofs.Frame.{Same, NoEnds, NoRing, Off, same-refl, same-then, same-set, same-pick}
@@ -19,22 +20,22 @@ use Rattle.area.proofs.Frame.{same-scheduled, same-sentIf, same-dequeued, same-
 use Rattle.ticking.specs.Tick.{timed, txTick, txTicks, longLowered}
 use Rattle.taking.specs.Taken.{oldestArea, takenArea}
 
--- P names no end of a queue and no ring entry, no timer's count, which stands second in it, no long counter and no wait
+-- P names no end of a queue and no ring entry, no timer, no long counter and no wait
 pub record Aside (P : ℕ → Type 0) : Type 0 where
   pub ends : (n : ℕ) → n < 16 → NoEnds P n
   pub ring : NoRing P
-  pub timers : (j : ℕ) → txTimersStart ≤ j → j < longStart → j % 2 ≡ 1 → P j → ⊥
+  pub timers : (j : ℕ) → txTimersStart ≤ j → j < longStart → P j → ⊥
   pub low : (j : ℕ) → longStart ≤ j → j < fullStart → P j → ⊥
 
 module _ {P : ℕ → Type 0} (f : Aside P) where
-  -- ---- timers: at is the place of a reload value
+  -- ---- timers
 
-  pub aside-count : (a : List ℕ) (at v : ℕ) → txTimersStart ≤ at → at < longStart → at % 2 ≡ 0 → Same P a (set a (at + 1) v)
-  aside-count a at v l m e = same-set _ _ (f .timers _ (omega arith) (omega arith) (omega arith)) (same-refl a)
+  pub aside-count : (a : List ℕ) (at v : ℕ) → txTimersStart ≤ at → at < longStart → Same P a (set a at v)
+  aside-count a at v l m = same-set _ _ (f .timers at l m) (same-refl a)
 
-  pub aside-timed : (a : List ℕ) (at : ℕ) → txTimersStart ≤ at → at < longStart → at % 2 ≡ 0 → Same P a (timed a at)
+  pub aside-timed : (a : List ℕ) (reload at : ℕ) → txTimersStart ≤ at → at < longStart → Same P a (timed a reload at)
   unfolding timed
-  aside-timed a at l m e = aside-count a at _ l m e
+  aside-timed a reload at l m = aside-count a at _ l m
 
   pub aside-long : (a : List ℕ) (r : ℕ) → r < 256 → Same P a (longLowered a r)
   unfolding longLowered
@@ -45,8 +46,8 @@ module _ {P : ℕ → Type 0} (f : Aside P) where
   wait : (t : ℕ) → t < 256 → P (waits t) → ⊥
   wait t h = f .low _ (omega arith) (omega arith)
 
-  timer : (t : ℕ) → t < 256 → P (txTimer t + 1) → ⊥
-  timer t h = f .timers _ (omega arith) (omega arith) (omega arith)
+  timer : (t : ℕ) → t < 256 → P (txTimer t) → ⊥
+  timer t h = f .timers _ (omega arith) (omega arith)
 
   pub aside-scheduled : (a : List ℕ) (t : ℕ) → t < 256 → Same P a (scheduled a t)
   aside-scheduled a t h = same-scheduled (f .ends) (f .ring) a t (wait t h) (timer t h)
@@ -63,7 +64,9 @@ module _ {P : ℕ → Type 0} (f : Aside P) where
   aside-taken a n =
       same-pick _ _ _
       (cases (Same P a) (ltb n (nodeCount a)) _ _
-      (λ e. let l = ltb-true n (nodeCount a) e in same-pick _ _ _ (same-refl a) (aside-dequeued a n (omega arith)))
+      (λ e.
+      let l = ltb-true n (nodeCount a) e in
+      same-pick _ _ _ (same-refl a) (aside-dequeued a n (omega (arith, at-most-le 16 (byteAt a nodeCountByte)))))
       (λ e. same-refl a))
       (same-refl a)
 
@@ -72,7 +75,7 @@ module _ {P : ℕ → Type 0} (f : Aside P) where
   pub aside-txTick : (k : ℕ) (a : List ℕ) (t : ℕ) → t < 256 → Same P a (txTick k a t)
   unfolding txTick
   aside-txTick k a t h =
-      let s = aside-timed a (txTimer t) (omega arith) (omega arith) (omega arith) in
+      let s = aside-timed a (txReload t) (txTimer t) (omega arith) (omega arith) in
       same-pick _ _ _ (same-pick _ _ _ (same-then s (aside-scheduled _ t h)) s) (same-refl a)
 
   pub aside-txTicks : (k n : ℕ) (a : List ℕ) → n ≤ 256 → Same P a (txTicks k n a)

@@ -59,7 +59,7 @@ payload-aside =
     record {
       ends = λ n h j l m p. omega arith;
       ring = λ j l m p. omega arith;
-      timers = λ j l m e p. omega arith;
+      timers = λ j l m p. omega arith;
       low = λ j l m p. omega arith;
     }
 

@@ -4,14 +4,15 @@ use mathlib.Core.List.{List}
 use Prim.Native.Nat.{ℕ, zero, suc, _+_, _<_, _≤_}
 use native.Mathlib.Omega.{arith}
 use lib.ListN.{length}
+use Rattle.base.specs.Numbers.{byteAt, lowAt}
+use Rattle.base.proofs.Ranges.{at-most-le}
 use Rattle.records.specs.declared.record.RxNumber.{RxNumber}
 use Rattle.plan.specs.Rows.{rowsOf, noRow}
 use Rattle.facts.specs.Good.{GoodPlan}
-use Rattle.area.specs.Layout.{rxTimer, counter, order, txCount, rxCount, claims}
+use Rattle.area.specs.Layout.{nodeCountByte, txCountBytes, rxReload, rxTimer, counter, order, txCount, rxCount, firstRow, rowCount, claims}
 use Rattle.area.specs.Claims.{RxEvent, expired, allDone}
 use Rattle.area.proofs.Frame.{Same, same-refl, same-then, same-set, same-pick}
-use Rattle.area.specs.Layout.{firstRow, rowCount}
-use Rattle.reception.specs.Lookup.{rowsPart, lookedUp}
+use Rattle.reception.specs.Lookup.{lookedUp}
 use Rattle.reception.specs.Reception.{restarted, acceptedArea, receivedArea}
 use Rattle.reception.proofs.Search.{found-among}
 use Rattle.reception.proofs.ReceptionLaws.{For, by-answer as by-received}
@@ -40,8 +41,8 @@ module _ (plan : List ℕ) (good : GoodPlan plan) where
   pub row-found : (a : List ℕ) → Reads plan a → (n id : ℕ) (payload : List ℕ) (r : RxNumber) → For a n id payload r → r .0 < length (rowsOf plan)
   unfolding lookedUp
   row-found a reads n id payload r f =
-      let among = found-among (rowCount a n + 1) (rowsPart a n) (rowCount a n) (firstRow a n) id r (f .found) in
-      omega (arith, reads .node n (omega (arith, f .known)) .within)
+      let among = found-among (rowCount a n + 1) a (rowCount a n) (firstRow a n) id r (f .found) in
+      omega (arith, reads .node n (omega (arith, f .known, at-most-le 16 (byteAt a nodeCountByte))) .within)
 
   steady-claims :
       (a b : List ℕ) → Reads plan a → (e : RxEvent) (r : ℕ) → r < length (rowsOf plan) → Same Steady b (allDone (order a) e (claims a r) b)
@@ -52,7 +53,7 @@ module _ (plan : List ℕ) (good : GoodPlan plan) where
   pub steady-accepted : (a : List ℕ) → Reads plan a → (r : ℕ) (payload : List ℕ) → r < length (rowsOf plan) → Same Steady a (acceptedArea a r payload)
   unfolding restarted acceptedArea
   steady-accepted a reads r payload h =
-      same-then (aside-count steady-aside a (rxTimer r) _ (omega arith) (omega (arith, few r h)) (omega arith)) (steady-claims a _ reads _ r h)
+      same-then (aside-count steady-aside a (rxTimer r) _ (omega arith) (omega (arith, few r h))) (steady-claims a _ reads _ r h)
 
   pub steady-received : (a : List ℕ) → Reads plan a → (n id : ℕ) (payload : List ℕ) → Same Steady a (receivedArea a n id payload)
   steady-received a reads n id payload =
@@ -66,7 +67,7 @@ module _ (plan : List ℕ) (good : GoodPlan plan) where
   pub steady-rxTick : (k : ℕ) (a : List ℕ) → Reads plan a → (r : ℕ) → r < length (rowsOf plan) → Same Steady a (rxTick k a r)
   unfolding rxTick
   steady-rxTick k a reads r h =
-      let s = aside-timed steady-aside a (rxTimer r) (omega arith) (omega (arith, few r h)) (omega arith) in
+      let s = aside-timed steady-aside a (rxReload r) (rxTimer r) (omega arith) (omega (arith, few r h)) in
       same-pick _ _ _ (same-pick _ _ _ (same-then s (steady-expired _ (reads-steady s reads) r h)) s) (same-refl a)
 
   pub steady-rxTicks : (k n : ℕ) (a : List ℕ) → Reads plan a → n ≤ length (rowsOf plan) → Same Steady a (rxTicks k n a)
@@ -78,7 +79,7 @@ module _ (plan : List ℕ) (good : GoodPlan plan) where
   pub steady-ticked : (a : List ℕ) → Reads plan a → Same Steady a (ticked a)
   unfolding ticked
   steady-ticked a reads =
-      let s = aside-txTicks steady-aside (counter a) (txCount a) a (omega arith) in
+      let s = aside-txTicks steady-aside (counter a) (txCount a) a (at-most-le 256 (lowAt a txCountBytes)) in
       same-set _ _ (λ p. p .count refl)
       (same-then s (steady-rxTicks (counter a) (rxCount a) _ (reads-steady s reads) (omega (arith, reads .header .rx))))
 

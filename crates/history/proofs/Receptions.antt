@@ -1,10 +1,11 @@
 -- A reception turns each bit of a payload as its answer tells: by an acceptance for the plan's Rx frame of that node and ID, or not at all.
 use mathlib.Core.Path.{_≡_, refl, ap, _∙_}
 use mathlib.Core.List.{List}
-use Prim.Native.Nat.{ℕ, _+_, _<_, _≤_}
+use Prim.Native.Nat.{ℕ, _<_, _≤_}
 use native.Mathlib.Omega.{arith}
 use lib.ListN.{length, set, length-set}
 use Rattle.base.specs.Numbers.{byteAt}
+use Rattle.base.proofs.Ranges.{at-most-le}
 use Rattle.bits.specs.Payload.{bitAt}
 use Rattle.records.specs.declared.record.RxNumber.{RxNumber}
 use Rattle.records.specs.Records.{records}
@@ -13,7 +14,7 @@ use Rattle.facts.specs.Good.{GoodPlan}
 use Rattle.facts.proofs.FactsGood.{facts-good}
 use Rattle.answers.specs.declared.Received.{Received}
 use Rattle.answers.specs.declared.Received.the-variants.{Accepted, NoRow, TooShort, Refused}
-use Rattle.area.specs.Layout.{LongEnough, rxTimer, spot}
+use Rattle.area.specs.Layout.{nodeCountByte, LongEnough, rxReload, rxTimer, spot}
 use Rattle.area.specs.Claims.{accepted}
 use Rattle.reception.specs.Reception.{padded, restarted, acceptedArea, receivedAnswer, receivedArea}
 use Rattle.reception.proofs.Padded.{padded-bit}
@@ -47,7 +48,7 @@ module _ (plan : List ℕ) (good : GoodPlan plan) where
   pub row-named :
       (a : List ℕ) → Reads plan a → (n id : ℕ) (payload : List ℕ) (r : RxNumber) → For a n id payload r → Names plan n id (r .0)
   row-named a reads n id payload r f =
-      lookup-finds plan a _ _ _ (facts-good plan good) reads n id (omega (arith, f .known)) .found r (f .found)
+      lookup-finds plan a _ _ _ (facts-good plan good) reads n id (omega (arith, f .known, at-most-le 16 (byteAt a nodeCountByte))) .found r (f .found)
 
   module _ (t b : ℕ) (frame : t < 256) (small : b < 64) where
     abbrev w : Owner
@@ -62,9 +63,9 @@ module _ (plan : List ℕ) (good : GoodPlan plan) where
     unfolding restarted acceptedArea
     accepted-turns a reads r payload h short =
         let l : r < 256 = omega (arith, good .counts .rx) in
-        let loaded = set a (rxTimer r + 1) (byteAt a (rxTimer r)) in
+        let loaded = set a (rxTimer r) (byteAt a (rxReload r)) in
         let long : LongEnough loaded = simp length-set (reads .header .size) in
-        let count = aside-count payload-aside a (rxTimer r) (byteAt a (rxTimer r)) (omega arith) (omega arith) (omega arith) in
+        let count = aside-count payload-aside a (rxTimer r) (byteAt a (rxReload r)) (omega arith) (omega arith) in
         rw (reads .header .order, reads .rx r h .claims) (row-turns plan good o t b frame small (accepted r (padded payload)) r h refl loaded long)
         ∙ ap (λ (v : ℕ). turned o w v (accepted r (padded payload))) (payload-bit o t b frame small count)
         ∙ turned-padded o w (now a) r payload short

@@ -1,24 +1,23 @@
--- The bytes that no call after an opening changes: all but the tick counter, the queues' ends and entries, the counts of the timers, the long
--- counters, the waits and the payloads. All that `Reads` says is read there.
+-- The bytes that no call after an opening changes: all but the tick counter, the queues' ends and entries, the timers, the long counters,
+-- the waits and the payloads. All that `Reads` says is read there.
 use mathlib.Core.Path.{_≡_, _∙_}
 use mathlib.Core.List.{List}
-use Prim.Native.Nat.{ℕ, _+_, _%_, _<_, _≤_}
+use Prim.Native.Nat.{ℕ, _+_, _<_, _≤_}
 use native.Mathlib.Omega.{arith}
-use Rattle.base.specs.Numbers.{twoAt}
-use Rattle.area.specs.Layout.{counterByte, queuesStart, txTimersStart, longStart, fullStart, entriesStart, txMasksStart}
-use Rattle.area.specs.Layout.{node, queue, txTimer, rxTimer, full, row, txMask, rxMask}
+use Rattle.base.specs.Numbers.{lowAt}
+use Rattle.base.proofs.Ranges.{at-most-le}
+use Rattle.area.specs.Layout.{counterByte, txCountBytes, rxCountBytes, queuesStart, txReloadsStart, txTimersStart, longStart, fullStart, entriesStart}
+use Rattle.area.specs.Layout.{txMasksStart, node, queue, txReload, rxReload, full, key, txMask, rxMask, firstRow, rowCount}
 use Rattle.area.proofs.Frame.{Same, same-two, same-fewer}
 use Rattle.area.proofs.Kept.{Planned, Kept, in-header, in-tables, marked-kept, order-kept, nodeCount-kept, txCount-kept, rxCount-kept}
 use Rattle.area.proofs.Kept.{start-kept, room-kept, planOf-kept, txFrame-kept, rxFrame-kept, claims-kept}
-use Rattle.area.specs.Layout.{firstRow, rowCount}
 use Rattle.tables.specs.Reads.{Header, TxTable, RxTable, NodeTable, Rings, Reads}
 use Rattle.history.proofs.Aside.{Aside}
 
 pub record Steady (j : ℕ) : Type 0 where
   pub count : j ≡ counterByte → ⊥
   pub ends : (n : ℕ) → n < 16 → queue n + 4 ≤ j → j < queue n + 8 → ⊥
-  -- of a timer, the count stands second
-  pub timers : txTimersStart ≤ j → j < longStart → j % 2 ≡ 1 → ⊥
+  pub timers : txTimersStart ≤ j → j < longStart → ⊥
   pub low : longStart ≤ j → j < fullStart → ⊥
   pub high : entriesStart ≤ j → j < txMasksStart → ⊥
 
@@ -27,34 +26,34 @@ planned-steady j p =
     record {
       count = p .count;
       ends = p .ends;
-      timers = λ l m e. p .low l (omega arith);
+      timers = λ l m. p .low (omega arith) (omega arith);
       low = λ l m. p .low (omega arith) m;
       high = λ l m. p .high l (omega arith);
     }
 
--- from the timers on: a reload value, or a place past the payloads
-steady-from : (j : ℕ) → txTimersStart ≤ j → (j < longStart → j % 2 ≡ 0) → (longStart ≤ j → txMasksStart ≤ j) → Steady j
-steady-from j h even past =
+-- from the reload values on: one of these, or a place past the payloads
+steady-from : (j : ℕ) → txReloadsStart ≤ j → (txTimersStart ≤ j → txMasksStart ≤ j) → Steady j
+steady-from j h past =
     record {
       count = λ e. omega arith;
       ends = λ n l x y. omega arith;
-      timers = λ x y e. omega (arith, even y);
-      low = λ x y. omega (arith, past x);
+      timers = λ x y. omega (arith, past x);
+      low = λ x y. omega (arith, past (omega arith));
       high = λ x y. omega (arith, past (omega arith));
     }
 
-pub reload-steady : (j : ℕ) → txTimersStart ≤ j → j < longStart → j % 2 ≡ 0 → Steady j
-reload-steady j h l e = steady-from j h (λ x. e) (λ x. omega arith)
+pub reload-steady : (j : ℕ) → txReloadsStart ≤ j → j < txTimersStart → Steady j
+reload-steady j h l = steady-from j h (λ x. omega arith)
 
 pub mask-steady : (j : ℕ) → txMasksStart ≤ j → Steady j
-mask-steady j h = steady-from j (omega arith) (λ x. omega arith) (λ x. h)
+mask-steady j h = steady-from j (omega arith) (λ x. h)
 
 pub steady-aside : Aside Steady
 steady-aside =
     record {
       ends = λ n h j l m p. p .ends n h l m;
       ring = λ j l m p. p .high l (omega arith);
-      timers = λ j l m e p. p .timers l m e;
+      timers = λ j l m p. p .timers l m;
       low = λ j l m p. p .low l m;
     }
 
@@ -65,10 +64,10 @@ module _ {a b : List ℕ} (s : Same Steady a b) where
   kept-steady = same-fewer planned-steady s
 
   -- a number of two bytes among the nodes, and in a table
-  node-two : (j : ℕ) → counterByte < j → j + 1 < queuesStart → twoAt b j ≡ twoAt a j
+  node-two : (j : ℕ) → counterByte < j → j + 1 < queuesStart → lowAt b j ≡ lowAt a j
   node-two j h l = same-two kept-steady j (in-header j (omega arith) (λ e. omega arith)) (in-header (j + 1) (omega arith) (λ e. omega arith))
 
-  table-two : (j : ℕ) → fullStart ≤ j → j + 1 < entriesStart → twoAt b j ≡ twoAt a j
+  table-two : (j : ℕ) → fullStart ≤ j → j + 1 < entriesStart → lowAt b j ≡ lowAt a j
   table-two j h l = same-two kept-steady j (in-tables j h (omega arith)) (in-tables (j + 1) (omega arith) (omega arith))
 
   module _ {plan : List ℕ} where
@@ -88,7 +87,7 @@ module _ {a b : List ℕ} (s : Same Steady a b) where
     tx-table t h x =
         record {
           frame = txFrame-kept kept-steady t h ∙ x .frame;
-          reload = s .at (txTimer t) (reload-steady _ (omega arith) (omega arith) (omega arith)) ∙ x .reload;
+          reload = s .at (txReload t) (reload-steady _ (omega arith) (omega arith)) ∙ x .reload;
           mask = s .at (txMask t) (mask-steady _ (omega arith)) ∙ x .mask;
           full = table-two (full t) (omega arith) (omega arith) ∙ x .full;
         }
@@ -98,8 +97,8 @@ module _ {a b : List ℕ} (s : Same Steady a b) where
         record {
           frame = rxFrame-kept kept-steady r h ∙ x .frame;
           claims = claims-kept kept-steady r h ∙ x .claims;
-          key = rw (table-two (row r) (omega arith) (omega arith), table-two (row r + 2) (omega arith) (omega arith)) (x .key);
-          reload = s .at (rxTimer r) (reload-steady _ (omega arith) (omega arith) (omega arith)) ∙ x .reload;
+          key = rw (table-two (key r + 2) (omega arith) (omega arith), table-two (key r) (omega arith) (omega arith)) (x .key);
+          reload = s .at (rxReload r) (reload-steady _ (omega arith) (omega arith)) ∙ x .reload;
           mask = s .at (rxMask r) (mask-steady _ (omega arith)) ∙ x .mask;
         }
 
@@ -129,8 +128,8 @@ module _ {a b : List ℕ} (s : Same Steady a b) where
         let h = r .header in
         record {
           header = header h;
-          tx = λ t l. tx-table t (omega (arith, h .tx)) (r .tx t l);
-          rx = λ t l. rx-table t (omega (arith, h .rx)) (r .rx t l);
+          tx = λ t l. tx-table t (omega (arith, h .tx, at-most-le 256 (lowAt a txCountBytes))) (r .tx t l);
+          rx = λ t l. rx-table t (omega (arith, h .rx, at-most-le 256 (lowAt a rxCountBytes))) (r .rx t l);
           node = λ n l. node-table n l (r .node n l);
           rings = λ n l. rings n l (r .rings n l);
         }

@@ -10,14 +10,15 @@ use lib.ListN.{length, take}
 use lib.Seq.{take-suc, length-take-le}
 use borrow.Author.Tests.{leb-true}
 use Rattle.base.specs.Pick.{pick}
-use Rattle.base.specs.Numbers.{byteAt}
+use Rattle.base.specs.Numbers.{byteAt, lowAt}
 use Rattle.base.proofs.Picks.{both, cases, into}
+use Rattle.base.proofs.Ranges.{at-most-le}
 use Rattle.bits.specs.Payload.{bitAt}
 use Rattle.records.specs.Records.{records}
 use Rattle.plan.specs.Rows.{rowsOf, orderIn}
 use Rattle.facts.specs.Good.{GoodPlan}
 use Rattle.answers.specs.declared.Ticked.{Ticked}
-use Rattle.area.specs.Layout.{rxTimer, long, rxMask, spot, counter, txCount, rxCount}
+use Rattle.area.specs.Layout.{txCountBytes, rxReload, rxTimer, long, rxMask, spot, counter, txCount, rxCount}
 use Rattle.area.specs.Claims.{RxEvent, expired}
 use Rattle.area.proofs.Frame.{same-refl, same-set}
 use Rattle.clock.specs.Counter.{noCommonBit}
@@ -82,12 +83,12 @@ module _ (plan : List ℕ) (good : GoodPlan plan) (t b : ℕ) (frame : t < 256) 
   row-ticks k a reads r h =
       let P : List ℕ → ℕ → Type 0 = λ x y. now x ≡ replay o w (toldReport r (y ∷ [])) (now a) in
       let l : r < 256 = omega (arith, good .counts .rx) in
-      let stays = payload-bit o t b frame small (aside-timed payload-aside a (rxTimer r) (omega arith) (omega arith) (omega arith)) in
-      let s = aside-timed steady-aside a (rxTimer r) (omega arith) (omega arith) (omega arith) in
-      let turns = row-expires (timed a (rxTimer r)) (reads-steady s reads) r h ∙ ap (λ (v : ℕ). turned o w v (expired r)) stays in
+      let stays = payload-bit o t b frame small (aside-timed payload-aside a (rxReload r) (rxTimer r) (omega arith) (omega arith)) in
+      let s = aside-timed steady-aside a (rxReload r) (rxTimer r) (omega arith) (omega arith) in
+      let turns = row-expires (timed a (rxReload r) (rxTimer r)) (reads-steady s reads) r h ∙ ap (λ (v : ℕ). turned o w v (expired r)) stays in
       pairs P (noCommonBit k (byteAt a (rxMask r))) _ _ _ _
-      (pairs P (eqb (byteAt a (rxTimer r + 1)) 1) _ _ _ _
-      (both (λ (y : ℕ). P (expiredArea (timed a (rxTimer r)) r) y) (eqb (byteAt a (long r)) 1) 2 1 turns turns) stays)
+      (pairs P (eqb (byteAt a (rxTimer r)) 1) _ _ _ _
+      (both (λ (y : ℕ). P (expiredArea (timed a (rxReload r) (rxTimer r)) r) y) (eqb (byteAt a (long r)) 1) 2 1 turns turns) stays)
       refl
 
   -- ---- the first n, of which xs tells
@@ -118,7 +119,7 @@ module _ (plan : List ℕ) (good : GoodPlan plan) (t b : ℕ) (frame : t < 256) 
   ticked-turns a report reads room =
       let k = counter a in
       let tx = txTicks k (txCount a) a in
-      let s = aside-txTicks steady-aside k (txCount a) a (omega arith) in
+      let s = aside-txTicks steady-aside k (txCount a) a (at-most-le 256 (lowAt a txCountBytes)) in
       let xs = reported k (rxCount a) tx report in
       let n : rxCount a ≡ length (rowsOf plan) = reads .header .rx in
       let rx : now (rxTicks k (rxCount a) tx) ≡ replay o w (toldReport 0 (take (rxCount a) xs)) (now tx) =
@@ -128,7 +129,7 @@ module _ (plan : List ℕ) (good : GoodPlan plan) (t b : ℕ) (frame : t < 256) 
       (payload-bit o t b frame small (same-set 2 _ (λ p. omega arith) (same-refl _))
       ∙ rx
       ∙ ap (replay o w (toldReport 0 (take (rxCount a) xs)))
-      (payload-bit o t b frame small (aside-txTicks payload-aside k (txCount a) a (omega arith))))
+      (payload-bit o t b frame small (aside-txTicks payload-aside k (txCount a) a (at-most-le 256 (lowAt a txCountBytes)))))
 
   pub tick-turns :
       (a report : List ℕ) → Reads plan a

@@ -5,7 +5,10 @@ use Prim.Native.Nat.{ℕ, _%_, _≤_, _<_}
 use native.Mathlib.Omega.{arith}
 use borrow.Author.Tests.{ne-eqb}
 use Rattle.base.specs.Pick.{pick}
+use Rattle.base.specs.Numbers.{lowAt}
 use Rattle.base.proofs.Picks.{both}
+use Rattle.base.proofs.Ranges.{at-most-le}
+use Rattle.area.specs.Layout.{full}
 use Rattle.answers.specs.declared.Refusal.{Refusal}
 use Rattle.answers.specs.declared.Refusal.the-variants.{NotOpen, NoNode, LongPayload, NoFrame}
 use Rattle.answers.specs.declared.Received.{Received}
@@ -81,4 +84,5 @@ owned-back n h = let e : n % 65536 ≡ n = omega arith in rw (first-packed, seco
 pub fullness-back : (a : List ℕ) (t : ℕ) → fullnessOf (fullnessWord (fullnessAnswer a t)) ≡ fullnessAnswer a t
 unfolding fullnessAnswer
 fullness-back a t =
+    let few = at-most-le 64 (lowAt a (full t)) in
     both FullnessBack _ _ _ (both FullnessBack _ _ _ (owned-back _ (omega arith)) (fullness-refused NoFrame)) (fullness-refused NotOpen)

@@ -9,7 +9,7 @@ use lib.Dec.{eqb}
 use lib.ListN.{length, set, length-set}
 use lib.Seq.{getD-set-same, getD-set-other}
 use Rattle.base.specs.Pick.{pick}
-use Rattle.base.specs.Numbers.{byteAt, twoAt, setTwo}
+use Rattle.base.specs.Numbers.{byteAt, lowAt, setLow}
 use Rattle.records.specs.declared.record.Eight.{Eight}
 use Rattle.records.specs.declared.record.TxFrame.{TxFrame}
 use Rattle.records.specs.declared.record.RxFrame.{RxFrame}
@@ -24,8 +24,8 @@ pub record Alike (a b : List ℕ) : Type 0 where
   pub second : LongEnough b
   pub at : (j : ℕ) → j < areaLength → byteAt a j ≡ byteAt b j
 
-alike-twoAt : {a b : List ℕ} → Alike a b → (k : ℕ) → k + 1 < areaLength → twoAt a k ≡ twoAt b k
-alike-twoAt s k h = rw (s .at k (omega arith), s .at (k + 1) h)
+alike-lowAt : {a b : List ℕ} → Alike a b → (k : ℕ) → k + 1 < areaLength → lowAt a k ≡ lowAt b k
+alike-lowAt s k h = rw (s .at k (omega arith), s .at (k + 1) h)
 
 pub alike-set : {a b : List ℕ} (i : ℕ) {v w : ℕ} → v ≡ w → Alike a b → Alike (set a i v) (set b i w)
 alike-set {a} {b} i {v} {w} e s = record {
@@ -42,8 +42,8 @@ alike-set {a} {b} i {v} {w} e s = record {
         let no′ = eqb-false j i t in
         getD-set-other a i j v 0 no′ ∙ s .at j h ∙ sym (getD-set-other b i j w 0 no′)
 
-pub alike-setTwo : {a b : List ℕ} (i : ℕ) {v w : ℕ} → v ≡ w → Alike a b → Alike (setTwo a i v) (setTwo b i w)
-alike-setTwo i e s = alike-set (i + 1) (rw e) (alike-set i (rw e) s)
+pub alike-setLow : {a b : List ℕ} (i : ℕ) {v w : ℕ} → v ≡ w → Alike a b → Alike (setLow a i v) (setLow b i w)
+alike-setLow i e s = alike-set (i + 1) (rw e) (alike-set i (rw e) s)
 
 alike-pick : {a b c d : List ℕ} (t : Bool) → Alike a b → Alike c d → Alike (pick t a c) (pick t b d)
 unfolding pick
@@ -62,14 +62,14 @@ alike-payload t e s =
 
 alike-frame : (n : ℕ) {a b : List ℕ} → n < 16 → Alike a b → Alike (withFrame n a) (withFrame n b)
 unfolding withFrame
-alike-frame n h s = alike-setTwo _ (rw (alike-twoAt s (queue n + 2) (omega arith))) s
+alike-frame n h s = alike-setLow _ (rw (alike-lowAt s (queue n + 2) (omega arith))) s
 
 alike-tx : (at : ℕ) (x : TxFrame) {a b : List ℕ} → Alike a b → Alike (withTx at x a) (withTx at x b)
 unfolding withTx
 alike-tx at x s =
-    rw (alike-twoAt s txCountBytes (omega arith))
-    (alike-setTwo txCountBytes refl
-    (alike-frame (x .node % 16) (omega arith) (alike-payload _ (x .payload) (alike-tx-timer _ x (alike-setTwo _ refl s)))))
+    rw (alike-lowAt s txCountBytes (omega arith))
+    (alike-setLow txCountBytes refl
+    (alike-frame (x .node % 16) (omega arith) (alike-payload _ (x .payload) (alike-tx-timer _ x (alike-setLow _ refl s)))))
 
 alike-rx-timer : (r : ℕ) (x : RxFrame) {a b : List ℕ} → Alike a b → Alike (withRxTimer r x a) (withRxTimer r x b)
 unfolding withRxTimer
@@ -77,18 +77,18 @@ alike-rx-timer r x s = alike-set _ refl (alike-set _ refl (alike-set _ refl (ali
 
 alike-row : (r at : ℕ) (x : RxFrame) {a b : List ℕ} → Alike a b → Alike (withRow r at x a) (withRow r at x b)
 unfolding withRow
-alike-row r at x s = alike-setTwo _ refl (alike-setTwo _ refl (alike-setTwo _ refl s))
+alike-row r at x s = alike-setLow _ refl (alike-setLow _ refl (alike-setLow _ refl s))
 
 alike-node-row : (n r : ℕ) {a b : List ℕ} → n < 16 → Alike a b → Alike (withNodeRow n r a) (withNodeRow n r b)
 unfolding withNodeRow
 alike-node-row n r h s =
-    rw (alike-twoAt s (node n + 2) (omega arith)) (alike-setTwo _ refl (alike-pick _ (alike-setTwo _ refl s) s))
+    rw (alike-lowAt s (node n + 2) (omega arith)) (alike-setLow _ refl (alike-pick _ (alike-setLow _ refl s) s))
 
 alike-rx : (at : ℕ) (x : RxFrame) {a b : List ℕ} → Alike a b → Alike (withRx at x a) (withRx at x b)
 unfolding withRx
 alike-rx at x s =
-    rw (alike-twoAt s rxCountBytes (omega arith))
-    (alike-setTwo rxCountBytes refl (alike-node-row (x .node % 16) _ (omega arith) (alike-row _ at x (alike-rx-timer _ x s))))
+    rw (alike-lowAt s rxCountBytes (omega arith))
+    (alike-setLow rxCountBytes refl (alike-node-row (x .node % 16) _ (omega arith) (alike-row _ at x (alike-rx-timer _ x s))))
 
 alike-record : (at : ℕ) (r : Record) {a b : List ℕ} → Alike a b → Alike (withRecord at r a) (withRecord at r b)
 unfolding withRecord
@@ -108,14 +108,14 @@ alike-records at (r ∷ rs) s = alike-records _ rs (alike-record at r s)
 alike-before : (n : ℕ) {a b : List ℕ} → n ≤ 16 → Alike a b → ringsBefore a n ≡ ringsBefore b n
 unfolding ringsBefore
 alike-before zero h s = refl
-alike-before (suc n) h s = rw (alike-before n (omega arith) s, alike-twoAt s (queue n + 2) (omega arith))
+alike-before (suc n) h s = rw (alike-before n (omega arith) s, alike-lowAt s (queue n + 2) (omega arith))
 
 pub alike-rings : (n : ℕ) {a b : List ℕ} → n ≤ 16 → Alike a b → Alike (withRings n a) (withRings n b)
 unfolding withRings
 alike-rings zero h s = s
-alike-rings (suc n) h s = alike-setTwo _ (alike-before n (omega arith) s) (alike-rings n (omega arith) s)
+alike-rings (suc n) h s = alike-setLow _ (alike-before n (omega arith) s) (alike-rings n (omega arith) s)
 
 pub alike-fullness : (sets : List ℕ) (n : ℕ) {a b : List ℕ} → Alike a b → Alike (withFullness sets n a) (withFullness sets n b)
 unfolding withFullness
 alike-fullness sets zero s = s
-alike-fullness sets (suc n) s = alike-setTwo _ refl (alike-fullness sets n s)
+alike-fullness sets (suc n) s = alike-setLow _ refl (alike-fullness sets n s)

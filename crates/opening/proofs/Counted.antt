@@ -5,7 +5,8 @@ use Prim.Native.Nat.{ℕ, suc, _+_, _%_, _<_, _≤_}
 use native.Mathlib.Omega.{arith}
 use lib.ListN.{length, set, length-set}
 use lib.Seq.{getD-set-same}
-use Rattle.base.specs.Numbers.{byteAt, twoAt, setTwo}
+use Rattle.base.specs.Numbers.{byteAt, lowAt, setLow}
+use Rattle.base.proofs.Ranges.{low-same}
 use Rattle.records.specs.declared.record.TxFrame.{TxFrame}
 use Rattle.records.specs.declared.record.RxFrame.{RxFrame}
 use Rattle.records.specs.declared.record.Record.{Record}
@@ -15,13 +16,12 @@ use Rattle.area.specs.Layout.{orderByte, nodeCountByte, txCountBytes, rxCountBy
 use Rattle.opening.specs.Opened.{nextTx, nextRx, withTxTimer, withPayload, withFrame, withTx}
 use Rattle.opening.specs.Opened.{withRxTimer, withRow, withNodeRow, withRx, withRecord, withRecords}
 use Rattle.opening.proofs.Kept.{same, same-set, same-tx, same-rx}
-use Rattle.opening.proofs.BlankLaws.{two-set}
 
 -- what is counted from a to b, as long as it is in range; the rows are numbered from any number on
 pub record Counts (n t : ℕ) (r : ℕ → ℕ) (a b : List ℕ) : Type 0 where
   pub nodes : byteAt a nodeCountByte + n < 256 → byteAt b nodeCountByte ≡ byteAt a nodeCountByte + n
-  pub tx : twoAt a txCountBytes + t ≤ 256 → twoAt b txCountBytes ≡ twoAt a txCountBytes + t
-  pub rx : (k : ℕ) → twoAt a rxCountBytes + r k ≤ 256 → twoAt b rxCountBytes ≡ twoAt a rxCountBytes + r k
+  pub tx : lowAt a txCountBytes + t ≤ 256 → lowAt b txCountBytes ≡ lowAt a txCountBytes + t
+  pub rx : (k : ℕ) → lowAt a rxCountBytes + r k ≤ 256 → lowAt b rxCountBytes ≡ lowAt a rxCountBytes + r k
 
 abbrev pub CountsOf : List Record → List ℕ → List ℕ → Type 0
 CountsOf rs a b = Counts (nodesIn rs) (length (txFrames rs)) (λ n. length (rowsFrom n rs)) a b
@@ -33,19 +33,19 @@ rx-length : (at : ℕ) (x : RxFrame) (a : List ℕ) → length (withRx at x a) �
 rx-length at x a = same-rx (λ j. ⊥) (λ j low high p. p) at x a (λ p. p) (λ p. p) .len
 
 -- a frame's number goes up by one
-tx-next : (at : ℕ) (x : TxFrame) (a : List ℕ) → rxCountBytes + 2 ≤ length a → twoAt (withTx at x a) txCountBytes ≡ nextTx a + 1
+tx-next : (at : ℕ) (x : TxFrame) (a : List ℕ) → rxCountBytes + 2 ≤ length a → lowAt (withTx at x a) txCountBytes ≡ nextTx a + 1
 unfolding withTx
 tx-next at x a l =
-    let b = withFrame (x .node % 16) (withPayload (nextTx a) (x .payload) (withTxTimer (nextTx a) x (setTwo a (txPlace (nextTx a)) at))) in
+    let b = withFrame (x .node % 16) (withPayload (nextTx a) (x .payload) (withTxTimer (nextTx a) x (setLow a (txPlace (nextTx a)) at))) in
     let n = simp length-set at (tx-length at x a) in
-    two-set b txCountBytes (nextTx a + 1) (omega arith) (omega arith)
+    low-same b txCountBytes (nextTx a + 1) (omega arith) (omega arith)
 
-rx-next : (at : ℕ) (x : RxFrame) (a : List ℕ) → rxCountBytes + 2 ≤ length a → twoAt (withRx at x a) rxCountBytes ≡ nextRx a + 1
+rx-next : (at : ℕ) (x : RxFrame) (a : List ℕ) → rxCountBytes + 2 ≤ length a → lowAt (withRx at x a) rxCountBytes ≡ nextRx a + 1
 unfolding withRx
 rx-next at x a l =
     let b = withNodeRow (x .node % 16) (nextRx a) (withRow (nextRx a) at x (withRxTimer (nextRx a) x a)) in
     let n = simp length-set at (rx-length at x a) in
-    two-set b rxCountBytes (nextRx a + 1) (omega arith) (omega arith)
+    low-same b rxCountBytes (nextRx a + 1) (omega arith) (omega arith)
 
 module _ (a : List ℕ) (l : rxCountBytes + 2 ≤ length a) where
   head-counts : (order : ℕ) → Counts 0 0 (λ k. 0) a (set a orderByte order)

@@ -6,7 +6,7 @@ use native.Mathlib.Numerals.{add-one}
 use native.Mathlib.Omega.{arith}
 use lib.ListN.{length, getD, set, length-set}
 use lib.Seq.{getD-set-other}
-use Rattle.base.specs.Numbers.{twoAt, setTwo}
+use Rattle.base.specs.Numbers.{lowAt, setLow}
 use Rattle.base.proofs.Picks.{both}
 use Rattle.records.specs.declared.record.Eight.{Eight}
 use Rattle.records.specs.declared.record.TxFrame.{TxFrame}
@@ -14,7 +14,7 @@ use Rattle.records.specs.declared.record.RxFrame.{RxFrame}
 use Rattle.records.specs.declared.record.Record.{Record}
 use Rattle.records.specs.declared.record.Record.the-variants.{Head, Node, Tx, Rx, Signal, Destination, Broken}
 use Rattle.area.specs.Layout.{orderByte, nodeCountByte, txCountBytes, rxCountBytes, nodesStart, planStart, mostRoom, queue}
-use Rattle.opening.specs.Opened.{cleared, laid, withTxTimer, withPayload, withFrame, withTx, withRxTimer, withRow, withNodeRow}
+use Rattle.opening.specs.Opened.{cleared, zeroed, laid, withTxTimer, withPayload, withFrame, withTx, withRxTimer, withRow, withNodeRow}
 use Rattle.opening.specs.Opened.{withRx, withRecord, withRecords, ringsBefore, withRings, withFullness}
 
 pub record Same (P : ℕ → Type 0) (a b : List ℕ) : Type 0 where
@@ -34,8 +34,8 @@ module _ (P : ℕ → Type 0) where
     at = λ j p. getD-set-other b i j v 0 (λ e. never (rw e at p)) ∙ s .at j p;
   }
 
-  pub same-two : {a b : List ℕ} (i v : ℕ) → (P i → ⊥) → (P (i + 1) → ⊥) → Same P a b → Same P a (setTwo b i v)
-  same-two i v high low s = same-set _ _ low (same-set _ _ high s)
+  pub same-low : {a b : List ℕ} (i v : ℕ) → (P i → ⊥) → (P (i + 1) → ⊥) → Same P a b → Same P a (setLow b i v)
+  same-low i v first second s = same-set _ _ second (same-set _ _ first s)
 
   pub same-cleared : (n : ℕ) (a : List ℕ) → ((j : ℕ) → j < n → P j → ⊥) → Same P a (cleared n a)
   unfolding cleared
@@ -46,6 +46,14 @@ module _ (P : ℕ → Type 0) where
   unfolding laid
   same-laid plan zero a never = same a
   same-laid plan (suc n) a never = same-set _ _ (never n (omega arith)) (same-laid plan n a (λ j h. never j (omega arith)))
+
+  pub same-zeroed : (from n : ℕ) (a : List ℕ) → ((j : ℕ) → j < n → P (from + j) → ⊥) → Same P a (zeroed from n a)
+  unfolding zeroed
+  same-zeroed from zero a never = same a
+  same-zeroed from (suc n) a never = same-set _ _ (never n (omega arith)) (same-zeroed from n a (λ j h. never j (omega arith)))
+
+pub zeroed-length : (from n : ℕ) (a : List ℕ) → length (zeroed from n a) ≡ length a
+zeroed-length from n a = same-zeroed (λ j. ⊥) from n a (λ j h p. p) .len
 
 pub cleared-length : (n : ℕ) (a : List ℕ) → length (cleared n a) ≡ length a
 cleared-length n a = same-cleared (λ j. ⊥) n a (λ j h p. p) .len
@@ -58,8 +66,8 @@ module _ (P : ℕ → Type 0) (tables : (j : ℕ) → nodesStart ≤ j → j < p
   put : {a b : List ℕ} (i v : ℕ) → nodesStart ≤ i → i < planStart → Same P a b → Same P a (set b i v)
   put i v low high s = same-set P _ _ (tables i low high) s
 
-  put-two : {a b : List ℕ} (i v : ℕ) → nodesStart ≤ i → i + 1 < planStart → Same P a b → Same P a (setTwo b i v)
-  put-two i v low high s = same-two P _ _ (tables i low (omega arith)) (tables (i + 1) (omega arith) high) s
+  put-low : {a b : List ℕ} (i v : ℕ) → nodesStart ≤ i → i + 1 < planStart → Same P a b → Same P a (setLow b i v)
+  put-low i v low high s = same-low P _ _ (tables i low (omega arith)) (tables (i + 1) (omega arith) high) s
 
   same-tx-timer : (t : ℕ) (x : TxFrame) (a : List ℕ) → t < 256 → Same P a (withTxTimer t x a)
   unfolding withTxTimer
@@ -75,13 +83,13 @@ module _ (P : ℕ → Type 0) (tables : (j : ℕ) → nodesStart ≤ j → j < p
 
   same-frame : (n : ℕ) (a : List ℕ) → n < 16 → Same P a (withFrame n a)
   unfolding withFrame
-  same-frame n a h = put-two _ _ (omega arith) (omega arith) (same P a)
+  same-frame n a h = put-low _ _ (omega arith) (omega arith) (same P a)
 
   pub same-tx : (at : ℕ) (x : TxFrame) (a : List ℕ) → (P txCountBytes → ⊥) → (P (txCountBytes + 1) → ⊥) → Same P a (withTx at x a)
   unfolding withTx
-  same-tx at x a high low =
-      same-two P _ _ high low
-      (same-then P (put-two _ _ (omega arith) (omega arith) (same P a))
+  same-tx at x a low high =
+      same-low P _ _ low high
+      (same-then P (put-low _ _ (omega arith) (omega arith) (same P a))
       (same-then P (same-tx-timer _ x _ (omega arith))
       (same-then P (same-payload _ (x .payload) _ (omega arith)) (same-frame _ _ (omega arith)))))
 
@@ -94,30 +102,30 @@ module _ (P : ℕ → Type 0) (tables : (j : ℕ) → nodesStart ≤ j → j < p
   same-row : (r at : ℕ) (x : RxFrame) (a : List ℕ) → r < 256 → Same P a (withRow r at x a)
   unfolding withRow
   same-row r at x a h =
-      put-two _ _ (omega arith) (omega arith) (put-two _ _ (omega arith) (omega arith) (put-two _ _ (omega arith) (omega arith) (same P a)))
+      put-low _ _ (omega arith) (omega arith) (put-low _ _ (omega arith) (omega arith) (put-low _ _ (omega arith) (omega arith) (same P a)))
 
   same-node-row : (n r : ℕ) (a : List ℕ) → n < 16 → Same P a (withNodeRow n r a)
   unfolding withNodeRow
   same-node-row n r a h =
-      put-two _ _ (omega arith) (omega arith)
-      (both (Same P a) _ _ _ (put-two _ _ (omega arith) (omega arith) (same P a)) (same P a))
+      put-low _ _ (omega arith) (omega arith)
+      (both (Same P a) _ _ _ (put-low _ _ (omega arith) (omega arith) (same P a)) (same P a))
 
   pub same-rx : (at : ℕ) (x : RxFrame) (a : List ℕ) → (P rxCountBytes → ⊥) → (P (rxCountBytes + 1) → ⊥) → Same P a (withRx at x a)
   unfolding withRx
-  same-rx at x a high low =
-      same-two P _ _ high low
+  same-rx at x a low high =
+      same-low P _ _ low high
       (same-then P (same-rx-timer _ x a (omega arith))
       (same-then P (same-row _ at x _ (omega arith)) (same-node-row _ _ _ (omega arith))))
 
   pub same-rings : (n : ℕ) (a : List ℕ) → n ≤ 16 → Same P a (withRings n a)
   unfolding withRings
   same-rings zero a h = same P a
-  same-rings (suc n) a h = put-two _ _ (omega arith) (omega arith) (same-rings n a (omega arith))
+  same-rings (suc n) a h = put-low _ _ (omega arith) (omega arith) (same-rings n a (omega arith))
 
   pub same-fullness : (sets : List ℕ) (n : ℕ) (a : List ℕ) → n ≤ 256 → Same P a (withFullness sets n a)
   unfolding withFullness
   same-fullness sets zero a h = same P a
-  same-fullness sets (suc n) a h = put-two _ _ (omega arith) (omega arith) (same-fullness sets n a (omega arith))
+  same-fullness sets (suc n) a h = put-low _ _ (omega arith) (omega arith) (same-fullness sets n a (omega arith))
 
 -- P: none of those places, nor of the order and the counts
 module _
@@ -147,17 +155,17 @@ module _
 rings-kept : (n : ℕ) (a : List ℕ) → Same (λ j. 2 ≤ j % 8) a (withRings n a)
 unfolding withRings
 rings-kept zero a = same _ a
-rings-kept (suc n) a = same-two (λ j. 2 ≤ j % 8) _ _ (λ p. omega arith) (λ p. omega arith) (rings-kept n a)
+rings-kept (suc n) a = same-low (λ j. 2 ≤ j % 8) _ _ (λ p. omega arith) (λ p. omega arith) (rings-kept n a)
 
-room-kept : (n k : ℕ) (a : List ℕ) → twoAt (withRings n a) (queue k + 2) ≡ twoAt a (queue k + 2)
+room-kept : (n k : ℕ) (a : List ℕ) → lowAt (withRings n a) (queue k + 2) ≡ lowAt a (queue k + 2)
 room-kept n k a =
     let s = rings-kept n a in
-    let high = s .at (queue k + 2) (omega arith) in
-    let low = s .at (queue k + 2 + 1) (omega arith) in
+    let low = s .at (queue k + 2) (omega arith) in
+    let high = s .at (queue k + 2 + 1) (omega arith) in
     omega arith
 
 pub start-next :
-    (a b : List ℕ) (n start frames : ℕ) → b ≡ withRings n a → start ≡ ringsBefore a n → frames ≡ twoAt b (queue n + 2)
+    (a b : List ℕ) (n start frames : ℕ) → b ≡ withRings n a → start ≡ ringsBefore a n → frames ≡ lowAt b (queue n + 2)
     → start + (frames % mostRoom + 1) ≡ ringsBefore a (n + 1)
 unfolding ringsBefore
 start-next a b n start frames is before read = rw (add-one n, read, is, room-kept n n a, before)

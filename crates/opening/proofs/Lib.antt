@@ -1,5 +1,6 @@
 pub mod Kept
 pub mod Turn
+pub mod Passing
 pub mod Alike
 pub mod BlankLaws
 pub mod Counted

@@ -8,7 +8,8 @@ use borrow.Author.Tests.{eq-eqb, le-leb}
 use lib.ListN.{length, take, drop, length-drop}
 use lib.Seq.{ext-getD, getD-drop, getD-take, length-take-le}
 use Rattle.base.specs.Pick.{pick}
-use Rattle.base.specs.Numbers.{byteAt, twoAt}
+use Rattle.base.specs.Numbers.{byteAt, lowAt}
+use Rattle.base.proofs.Ranges.{at-most-is}
 use Rattle.records.specs.Records.{records}
 use Rattle.plan.specs.declared.verdict.Verdict.the-variants.{Good}
 use Rattle.plan.specs.Check.{checkPlan, setsOf}
@@ -21,7 +22,7 @@ use Rattle.opening.specs.Opened.{blank, withRecords, opened}
 use Rattle.opening.proofs.Kept.{Same, same-then, same-records, same-rings, same-fullness}
 use Rattle.opening.proofs.Alike.{Alike, alike-records, alike-rings, alike-fullness}
 use Rattle.opening.proofs.Counted.{counts}
-use Rattle.opening.proofs.BlankLaws.{alike-blank, blank-same, blank-length, blank-mark, blank-long, blank-zero, blank-plan}
+use Rattle.opening.proofs.BlankLaws.{alike-blank, blank-same, blank-length, blank-mark, blank-long, blank-zero, blank-plan, blank-behind}
 
 -- the rings and the fullness stand in the tables
 last-same : (P : ℕ → Type 0) → ((j : ℕ) → nodesStart ≤ j → j < planStart → P j → ⊥) → (plan a : List ℕ)
@@ -66,20 +67,27 @@ module _ (plan a : List ℕ) (room : LongEnough a) where
       kept .at counterByte (λ e. omega arith, λ h. omega arith)
       ∙ blank-zero plan a room counterByte (omega arith) (λ e. omega arith) (λ e. omega arith) (λ e. omega arith) (λ e. omega arith)
 
+  -- the plan's bytes, and zeros behind them
+  pub opened-byte : length plan ≤ planRoom → (i : ℕ) → i < length plan → byteAt (opened plan a) (planStart + i) ≡ byteAt plan i
+  opened-byte short i h = kept .at (planStart + i) (λ e. omega arith, λ m. omega arith) ∙ blank-plan plan a room short i h
+
+  pub opened-behind : (j : ℕ) → planStart + length plan ≤ j → j < areaLength → byteAt (opened plan a) j ≡ 0
+  opened-behind j low h = kept .at j (λ e. omega arith, λ m. omega arith) ∙ blank-behind plan a room j low h
+
   pub opened-plan : length plan ≤ planRoom → planOf (opened plan a) ≡ plan
   unfolding planOf
   opened-plan short =
-      let high = kept .at planLengthBytes (λ e. omega arith, λ h. omega arith) in
-      let low = kept .at (planLengthBytes + 1) (λ e. omega arith, λ h. omega arith) in
-      let m : twoAt (opened plan a) planLengthBytes ≡ length plan = omega (arith, blank-long plan a room short) in
-      let n : planLength (opened plan a) ≡ length plan = rw m (omega arith) in
+      let low = kept .at planLengthBytes (λ e. omega arith, λ h. omega arith) in
+      let high = kept .at (planLengthBytes + 1) (λ e. omega arith, λ h. omega arith) in
+      let m : lowAt (opened plan a) planLengthBytes ≡ length plan = omega (arith, blank-long plan a room short) in
+      let n : planLength (opened plan a) ≡ length plan = rw m (at-most-is planRoom (length plan) short) in
       let l : length (take (length plan) (drop planStart (opened plan a))) ≡ length plan =
       length-take-le (length plan) (drop planStart (opened plan a)) (omega (arith, length-drop planStart (opened plan a), opened-length plan a)) in
       rw n
       (ext-getD 0 (take (length plan) (drop planStart (opened plan a))) plan l
       (λ i h. let k : i < length plan = omega arith in
       getD-take (length plan) (drop planStart (opened plan a)) i 0 k ∙ getD-drop planStart (opened plan a) i 0
-      ∙ kept .at (planStart + i) (λ e. omega arith, λ m. omega arith) ∙ blank-plan plan a room short i k))
+      ∙ opened-byte short i k))
 
 -- an opened area is a function of the plan alone
 pub opened-alike : (plan a b : List ℕ) → LongEnough a → LongEnough b → Alike (opened plan a) (opened plan b)
@@ -109,8 +117,12 @@ opened-counts plan a n t r good room =
     let rx₁ = zero (rxCountBytes + 1) (omega arith) (omega arith) in
     let nodes′ : byteAt (opened plan a) nodeCountByte ≡ n =
     omega (arith, s .at nodeCountByte (omega arith), c .nodes (omega (arith, few .nodes, most .nodes)), few .nodes) in
-    let tx′ : twoAt (opened plan a) txCountBytes ≡ t =
+    let tx′ : lowAt (opened plan a) txCountBytes ≡ t =
     omega (arith, s .at txCountBytes (omega arith), s .at (txCountBytes + 1) (omega arith), c .tx (omega (arith, few .tx, most .tx)), few .tx) in
-    let rx′ : twoAt (opened plan a) rxCountBytes ≡ r =
+    let rx′ : lowAt (opened plan a) rxCountBytes ≡ r =
     omega (arith, s .at rxCountBytes (omega arith), s .at (rxCountBytes + 1) (omega arith), c .rx 0 (omega (arith, few .rx, most .rx)), few .rx) in
-    record { nodes = rw nodes′ (omega (arith, most .nodes)); tx = rw tx′ (omega (arith, most .tx)); rx = rw rx′ (omega (arith, most .rx)) }
+    record {
+      nodes = rw nodes′ (at-most-is 16 n (omega (arith, most .nodes)));
+      tx = rw tx′ (at-most-is 256 t (omega (arith, most .tx)));
+      rx = rw rx′ (at-most-is 256 r (omega (arith, most .rx)));
+    }

@@ -1,11 +1,12 @@
 -- "Opening checks the plan and fills the area: hex 47 57 at its start, which no later call alters, payloads and timers initial, long counters
 -- at the long count, queues empty, tick counter 0. It answers the counts of nodes, Tx and Rx frames."
-use Prim.Native.Nat.{ℕ, zero, suc, _+_, _/_, _%_}
+use mathlib.Core.Path.{_≡_}
+use Prim.Native.Nat.{ℕ, zero, suc, _+_, _/_, _%_, _≤_}
 use mathlib.Core.List.{List, [], _∷_}
 use lib.Dec.{eqb}
 use lib.ListN.{length, getD, set}
 use Rattle.base.specs.Pick.{pick}
-use Rattle.base.specs.Numbers.{byteAt, twoAt, setTwo}
+use Rattle.base.specs.Numbers.{byteAt, lowAt, setLow}
 use Rattle.bits.specs.Owners.{owners}
 use Rattle.clock.specs.Counter.{maskOf}
 use Rattle.records.specs.declared.record.Eight.{Eight}
@@ -13,12 +14,12 @@ use Rattle.records.specs.declared.record.TxFrame.{TxFrame}
 use Rattle.records.specs.declared.record.RxFrame.{RxFrame}
 use Rattle.records.specs.declared.record.Record.{Record}
 use Rattle.records.specs.Views.{onHead, onNode, onTx, onRx}
-use Rattle.records.specs.Records.{sizeOf, records}
+use Rattle.records.specs.Records.{sizeOf, recordsAt, records}
 use Rattle.plan.specs.declared.verdict.Verdict.{Verdict}
 use Rattle.plan.specs.declared.verdict.Verdict.the-variants as verdict
 use Rattle.plan.specs.Check.{setsOf}
 use Rattle.area.specs.Layout.{areaLength, orderByte, planLengthBytes, nodeCountByte, txCountBytes, rxCountBytes, planStart, longEnough}
-use Rattle.area.specs.Layout.{node, queue, txTimer, rxTimer, long, full, txPlace, row, payload, txMask, rxMask}
+use Rattle.area.specs.Layout.{node, queue, txReload, rxReload, txTimer, rxTimer, long, full, txPlace, key, rxPlace, payload, txMask, rxMask}
 use Rattle.area.specs.Queue.{roomOf}
 use Rattle.answers.specs.declared.Refusal.the-variants.{Plan, ShortArea}
 use Rattle.answers.specs.declared.Opened.{Opened}
@@ -31,6 +32,11 @@ unfoldable pub cleared : ℕ → List ℕ → List ℕ
 cleared zero a = a
 cleared (suc n) a = set (cleared n a) n 0
 
+-- n bytes from a place on zero
+unfoldable pub zeroed : ℕ → ℕ → List ℕ → List ℕ
+zeroed from zero a = a
+zeroed from (suc n) a = set (zeroed from n a) (from + n) 0
+
 -- the first n bytes of the plan, in its place
 unfoldable pub laid : List ℕ → ℕ → List ℕ → List ℕ
 laid plan zero a = a
@@ -38,20 +44,20 @@ laid plan (suc n) a = set (laid plan n a) (planStart + n) (getD plan n 0)
 
 -- with the mark and the plan's length
 unfoldable pub blank : List ℕ → List ℕ → List ℕ
-blank plan a = setTwo (set (set (laid plan (length plan) (cleared areaLength a)) 0 0x47) 1 0x57) planLengthBytes (length plan)
+blank plan a = setLow (set (set (laid plan (length plan) (cleared areaLength a)) 0 0x47) 1 0x57) planLengthBytes (length plan)
 
 -- ---- one record: at is its place in the plan
 
 -- the number that the next Tx frame, and the next Rx frame, gets
 abbrev pub nextTx : List ℕ → ℕ
-nextTx a = twoAt a txCountBytes % 256
+nextTx a = lowAt a txCountBytes % 256
 
 abbrev pub nextRx : List ℕ → ℕ
-nextRx a = twoAt a rxCountBytes % 256
+nextRx a = lowAt a rxCountBytes % 256
 
 -- timer t of Tx frames: reload, initial value, mask
 unfoldable pub withTxTimer : ℕ → TxFrame → List ℕ → List ℕ
-withTxTimer t x a = set (set (set a (txTimer t) (x .reload)) (txTimer t + 1) (x .initial)) (txMask t) (maskOf (x .prescaler))
+withTxTimer t x a = set (set (set a (txReload t) (x .reload)) (txTimer t) (x .initial)) (txMask t) (maskOf (x .prescaler))
 
 unfoldable pub withPayload : ℕ → Eight → List ℕ → List ℕ
 withPayload t b a =
@@ -73,30 +79,30 @@ withPayload t b a =
 
 -- one frame more that can wait on node n
 unfoldable pub withFrame : ℕ → List ℕ → List ℕ
-withFrame n a = setTwo a (queue n + 2) (twoAt a (queue n + 2) + 1)
+withFrame n a = setLow a (queue n + 2) (lowAt a (queue n + 2) + 1)
 
 unfoldable pub withTx : ℕ → TxFrame → List ℕ → List ℕ
 withTx at x a =
-    setTwo
-    (withFrame (x .node % 16) (withPayload (nextTx a) (x .payload) (withTxTimer (nextTx a) x (setTwo a (txPlace (nextTx a)) at))))
+    setLow
+    (withFrame (x .node % 16) (withPayload (nextTx a) (x .payload) (withTxTimer (nextTx a) x (setLow a (txPlace (nextTx a)) at))))
     txCountBytes (nextTx a + 1)
 
 unfoldable pub withRxTimer : ℕ → RxFrame → List ℕ → List ℕ
 withRxTimer r x a =
-    set (set (set (set a (rxTimer r) (x .reload)) (rxTimer r + 1) (x .initial)) (rxMask r) (maskOf (x .prescaler))) (long r) (x .long)
+    set (set (set (set a (rxReload r) (x .reload)) (rxTimer r) (x .initial)) (rxMask r) (maskOf (x .prescaler))) (long r) (x .long)
 
--- the row: its key in four bytes, and its place
+-- the row: its key in four bytes, the low ones first, and its place
 unfoldable pub withRow : ℕ → ℕ → RxFrame → List ℕ → List ℕ
-withRow r at x a = setTwo (setTwo (setTwo a (row r) (x .id / 65536)) (row r + 2) (x .id % 65536)) (row r + 4) at
+withRow r at x a = setLow (setLow (setLow a (key r) (x .id % 65536)) (key r + 2) (x .id / 65536)) (rxPlace r) at
 
 -- one row more of node n, which is its first if it has none yet
 unfoldable pub withNodeRow : ℕ → ℕ → List ℕ → List ℕ
 withNodeRow n r a =
-    setTwo (pick (eqb (twoAt a (node n + 2)) 0) (setTwo a (node n) r) a) (node n + 2) (twoAt a (node n + 2) + 1)
+    setLow (pick (eqb (lowAt a (node n + 2)) 0) (setLow a (node n) r) a) (node n + 2) (lowAt a (node n + 2) + 1)
 
 unfoldable pub withRx : ℕ → RxFrame → List ℕ → List ℕ
 withRx at x a =
-    setTwo (withNodeRow (x .node % 16) (nextRx a) (withRow (nextRx a) at x (withRxTimer (nextRx a) x a))) rxCountBytes (nextRx a + 1)
+    setLow (withNodeRow (x .node % 16) (nextRx a) (withRow (nextRx a) at x (withRxTimer (nextRx a) x a))) rxCountBytes (nextRx a + 1)
 
 unfoldable pub withRecord : ℕ → Record → List ℕ → List ℕ
 withRecord at r a =
@@ -109,6 +115,12 @@ unfoldable pub withRecords : ℕ → List Record → List ℕ → List ℕ
 withRecords at [] a = a
 withRecords at (r ∷ rs) a = withRecords (at + sizeOf r) rs (withRecord at r a)
 
+-- going on from a place of a plan to a later one passes nothing that puts a byte into an area
+pub record Passes (plan : List ℕ) (at next : ℕ) : Type 0 where
+  pub onward : at ≤ next
+  pub within : next ≤ length plan
+  pub leaves : (a : List ℕ) → withRecords next (recordsAt plan next) a ≡ withRecords at (recordsAt plan at) a
+
 -- ---- where the rings begin, and how full the frames are
 
 -- the rings of the first n nodes, one after the other: each has room for its frames and one more
@@ -118,12 +130,12 @@ ringsBefore a (suc n) = ringsBefore a n + roomOf a n
 
 unfoldable pub withRings : ℕ → List ℕ → List ℕ
 withRings zero a = a
-withRings (suc n) a = setTwo (withRings n a) (queue n) (ringsBefore a n)
+withRings (suc n) a = setLow (withRings n a) (queue n) (ringsBefore a n)
 
 -- the count of owned bits of the first n Tx frames
 unfoldable pub withFullness : List ℕ → ℕ → List ℕ → List ℕ
 withFullness sets zero a = a
-withFullness sets (suc n) a = setTwo (withFullness sets n a) (full n) (owners (getD sets n 0) 64)
+withFullness sets (suc n) a = setLow (withFullness sets n a) (full n) (owners (getD sets n 0) 64)
 
 -- ---- the call
 

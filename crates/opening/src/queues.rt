@@ -2,8 +2,8 @@
 use area::layout::MOST_ROOM;
 use area::layout::full;
 use area::layout::queue;
-use base::put_two;
-use base::two_at;
+use base::low_at;
+use base::put_low;
 use bits::owners::count;
 use records::record::TxNumber;
 ghost use mathlib.Core.Path.{_≡_};
@@ -20,8 +20,8 @@ pub fn with_rings(area: &mut [u8])
     let mut n = 0;
     while n < 16 {
         let at = queue(n);
-        let frames = two_at(area, at + 2);
-        put_two(area, at, start);
+        let frames = low_at(area, at + 2);
+        put_low(area, at, start);
         start += frames % MOST_ROOM + 1;
         n += 1;
     }
@@ -34,6 +34,6 @@ pub fn with_fullness(area: &mut [u8], sets: &[u64])
 {
     for t in 0..256 {
         let owned = count(sets[t]);
-        put_two(area, full(TxNumber(t)), owned as usize);
+        put_low(area, full(TxNumber(t)), owned as usize);
     }
 }

@@ -1,11 +1,12 @@
 // What each record of a plan puts into the area.
+use crate::claims::past_claims;
 use area::layout;
 use area::layout::NODE_COUNT_BYTE;
 use area::layout::ORDER_BYTE;
 use area::layout::RX_COUNT_BYTES;
 use area::layout::TX_COUNT_BYTES;
-use base::put_two;
-use base::two_at;
+use base::low_at;
+use base::put_low;
 use base::wide;
 use clock::counter::mask;
 use records::reader::read_record;
@@ -19,7 +20,7 @@ ghost use mathlib.Core.Path.{_≡_};
 ghost use Prim.Native.Nat.{_+_, _<_};
 ghost use lib.Dec.{eqb};
 ghost use Rattle.base.specs.Pick.{pick};
-ghost use Rattle.base.specs.Numbers.{setTwo};
+ghost use Rattle.base.specs.Numbers.{setLow};
 ghost use Rattle.records.specs.Records.{records};
 ghost use Rattle.area.specs.Layout.{LongEnough, node};
 ghost use Rattle.opening.specs.Opened.{withTxTimer, withPayload, withFrame, withTx, withRxTimer, withRow, withNodeRow, withRx, withRecord, withRecords};
@@ -29,11 +30,12 @@ fn with_tx_timer(area: &mut [u8], t: TxNumber, x: TxFrame)
     requires { ⌜ (t .0 < 256) × LongEnough (now area) ⌝ }
     ensures { λ r. ⌜ now (area .exit) ≡ withTxTimer (t .0) x (now (area .entry)) ⌝ }
 {
+    let tx_reload = layout::tx_reload(t);
     let tx_timer = layout::tx_timer(t);
     let tx_mask = layout::tx_mask(t);
     let tx_bits = mask(x.prescaler);
-    area[tx_timer] = x.reload;
-    area[tx_timer + 1] = x.initial;
+    area[tx_reload] = x.reload;
+    area[tx_timer] = x.initial;
     area[tx_mask] = tx_bits;
 }
 
@@ -59,8 +61,8 @@ fn with_frame(area: &mut [u8], n: usize)
     ensures { λ r. ⌜ now (area .exit) ≡ withFrame n (now (area .entry)) ⌝ }
 {
     let at = layout::queue(n) + 2;
-    let frames = two_at(area, at);
-    put_two(area, at, frames + 1);
+    let frames = low_at(area, at);
+    put_low(area, at, frames + 1);
 }
 
 // A Tx frame, whose record stands at `at`.
@@ -68,15 +70,15 @@ fn with_tx(area: &mut [u8], at: usize, x: TxFrame)
     requires { ⌜ LongEnough (now area) ⌝ }
     ensures { λ r. ⌜ now (area .exit) ≡ withTx at x (now (area .entry)) ⌝ }
 {
-    let number = two_at(area, TX_COUNT_BYTES) % 256;
+    let number = low_at(area, TX_COUNT_BYTES) % 256;
     let t = TxNumber(number);
     let n = wide(x.node % 16);
     let payload = x.payload;
-    put_two(area, layout::tx_place(t), at);
+    put_low(area, layout::tx_place(t), at);
     with_tx_timer(area, t, x);
     with_payload(area, t, payload);
     with_frame(area, n);
-    put_two(area, TX_COUNT_BYTES, number + 1);
+    put_low(area, TX_COUNT_BYTES, number + 1);
 }
 
 // The timer of Rx frame `r`, its mask, and its long counter at the long count.
@@ -84,12 +86,13 @@ fn with_rx_timer(area: &mut [u8], r: RxNumber, x: RxFrame)
     requires { ⌜ (r .0 < 256) × LongEnough (now area) ⌝ }
     ensures { λ u. ⌜ now (area .exit) ≡ withRxTimer (r .0) x (now (area .entry)) ⌝ }
 {
+    let rx_reload = layout::rx_reload(r);
     let rx_timer = layout::rx_timer(r);
     let rx_mask = layout::rx_mask(r);
     let long = layout::long(r);
     let rx_bits = mask(x.prescaler);
-    area[rx_timer] = x.reload;
-    area[rx_timer + 1] = x.initial;
+    area[rx_reload] = x.reload;
+    area[rx_timer] = x.initial;
     area[rx_mask] = rx_bits;
     area[long] = x.long;
 }
@@ -99,19 +102,20 @@ fn with_row(area: &mut [u8], r: RxNumber, at: usize, x: RxFrame)
     requires { ⌜ (r .0 < 256) × LongEnough (now area) ⌝ }
     ensures { λ u. ⌜ now (area .exit) ≡ withRow (r .0) at x (now (area .entry)) ⌝ }
 {
-    let place = layout::row(r);
-    put_two(area, place, x.id / 65536);
-    put_two(area, place + 2, x.id % 65536);
-    put_two(area, place + 4, at);
+    let key = layout::key(r);
+    let place = layout::rx_place(r);
+    put_low(area, key, x.id % 65536);
+    put_low(area, key + 2, x.id / 65536);
+    put_low(area, place, at);
 }
 
 // The first row of node `n` is number `r`, if it had none.
 fn with_first(area: &mut [u8], n: usize, r: usize, rows: usize)
     requires { ⌜ (n < 16) × LongEnough (now area) ⌝ }
-    ensures { λ u. ⌜ now (area .exit) ≡ pick (eqb rows 0) (setTwo (now (area .entry)) (node n) r) (now (area .entry)) ⌝ }
+    ensures { λ u. ⌜ now (area .exit) ≡ pick (eqb rows 0) (setLow (now (area .entry)) (node n) r) (now (area .entry)) ⌝ }
 {
     if rows == 0 {
-        put_two(area, layout::node(n), r);
+        put_low(area, layout::node(n), r);
     }
 }
 
@@ -121,9 +125,9 @@ fn with_node_row(area: &mut [u8], n: usize, r: usize)
     ensures { λ u. ⌜ now (area .exit) ≡ withNodeRow n r (now (area .entry)) ⌝ }
 {
     let at = layout::node(n) + 2;
-    let rows = two_at(area, at);
+    let rows = low_at(area, at);
     with_first(area, n, r, rows);
-    put_two(area, at, rows + 1);
+    put_low(area, at, rows + 1);
 }
 
 // An Rx frame, whose record stands at `at`.
@@ -131,13 +135,13 @@ fn with_rx(area: &mut [u8], at: usize, x: RxFrame)
     requires { ⌜ LongEnough (now area) ⌝ }
     ensures { λ u. ⌜ now (area .exit) ≡ withRx at x (now (area .entry)) ⌝ }
 {
-    let number = two_at(area, RX_COUNT_BYTES) % 256;
+    let number = low_at(area, RX_COUNT_BYTES) % 256;
     let r = RxNumber(number);
     let n = wide(x.node % 16);
     with_rx_timer(area, r, x);
     with_row(area, r, at, x);
     with_node_row(area, n, number);
-    put_two(area, RX_COUNT_BYTES, number + 1);
+    put_low(area, RX_COUNT_BYTES, number + 1);
 }
 
 // The record that stands at `at`.
@@ -158,7 +162,7 @@ fn with_record(area: &mut [u8], at: usize, r: Record)
     }
 }
 
-// Every record of the plan, in order.
+// Every record of the plan, in order; signals and destinations are passed over.
 pub fn with_records(area: &mut [u8], plan: &[u8])
     requires { ⌜ LongEnough (now area) ⌝ }
     ensures { λ u. ⌜ now (area .exit) ≡ withRecords 0 (records (now (plan .entry))) (now (area .entry)) ⌝ }
@@ -168,6 +172,6 @@ pub fn with_records(area: &mut [u8], plan: &[u8])
         let step = read_record(plan, at);
         let met = step.found;
         with_record(area, at, met);
-        at = step.next;
+        at = past_claims(plan, step.next);
     }
 }

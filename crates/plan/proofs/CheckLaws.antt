@@ -1,15 +1,20 @@
 -- One record more: what a record that passes leaves, and that the rest then decides as the whole plan does.
 use mathlib.Core.Path.{_≡_, refl, sym}
 use mathlib.Core.Bool.{Bool, true, false, not}
-use mathlib.Core.List.{List}
+use mathlib.Core.List.{List, []}
 use Prim.Native.Nat.{ℕ, _-_}
 use native.Mathlib.Omega.{arith}
 use Rattle.base.specs.Pick.{pick}
 use Rattle.records.specs.declared.record.Record.{Record}
-use Rattle.records.specs.declared.record.Record.the-variants.{Broken}
+use Rattle.records.specs.declared.record.Record.the-variants.{Head, Node, Tx, Rx, Signal, Destination, Broken}
+use Rattle.records.specs.declared.record.SignalBody.{SignalBody}
+use Rattle.records.specs.declared.record.DestinationBody.{DestinationBody}
+use Rattle.records.specs.declared.record.Follower.the-variants as follower
 use Rattle.records.specs.declared.record.Fault.{Fault}
 use Rattle.records.specs.declared.record.Fault.the-variants.{End, BadKind, Cut}
 use Rattle.records.specs.Kinds.{stageOf}
+use Rattle.records.specs.Reading.{followerOf}
+use Rattle.records.proofs.Variants.{by-destination}
 use Rattle.plan.specs.declared.verdict.Reason.{Reason}
 use Rattle.plan.specs.declared.verdict.Reason.the-variants.{Short, Kind, Indicator}
 use Rattle.plan.specs.declared.progress.Progress.{Progress}
@@ -78,33 +83,25 @@ module _ (p : Progress) (sizes sets : List ℕ) (r : Record) where
   unfolding judged
   judged-missing f = stops _ _ _ _ f
 
-  module _ (f : not (followed (p .row) (stageOf r)) ≡ false) (k : isKind r ≡ true) (w : isWhole r ≡ true) {n : Next} (e : n ≡ placed p sizes sets r) where
-    pub judged-placed : n ≡ judged p sizes sets r
-    unfolding judged
-    judged-placed = goes _ _ _ _ f (goes _ _ _ _ (rw k) (goes _ _ _ _ (rw w) e))
+  pub judged-placed :
+      not (followed (p .row) (stageOf r)) ≡ false → isKind r ≡ true → isWhole r ≡ true → {n : Next} → n ≡ placed p sizes sets r → n ≡ judged p sizes sets r
+  unfolding judged
+  judged-placed f k w e = goes _ _ _ _ f (goes _ _ _ _ (rw k) (goes _ _ _ _ (rw w) e))
 
-    -- a record that leaves the tables leaves them whether it is taken or not
-    module _ (same : setsAfter (p .row) sets r ≡ sets) where
-      sets-then : (n : Next) → sets ≡ setsThen n p sets r
-      sets-then (Go q) = sym same
-      sets-then (Refuse a k) = refl
+-- a record that leaves the tables leaves them whether it is taken or not
+pub sizes-then : (p : Progress) (sizes : List ℕ) (r : Record) → sizesAfter (p .counts .tx) sizes r ≡ sizes → (n : Next) → sizes ≡ sizesThen n p sizes r
+sizes-then p sizes r same (Go q) = sym same
+sizes-then p sizes r same (Refuse a k) = refl
 
-      pub sets-left : {sizes′ : List ℕ} → (sizes′ ≡ sizesThen n p sizes r) × Tables sizes′
-          → (n ≡ judged p sizes sets r) × (((sizes′ ≡ sizesThen n p sizes r) × Tables sizes′) × (sets ≡ setsThen n p sets r))
-      sets-left h = (judged-placed, (h, sets-then n))
+pub sizes-left :
+    (p : Progress) (sizes : List ℕ) (r : Record) → not (followed (p .row) (stageOf r)) ≡ false → isKind r ≡ true → isWhole r ≡ true → {n : Next}
+    → n ≡ placed p [] [] r → Tables sizes → sizesAfter (p .counts .tx) sizes r ≡ sizes
+    → (n ≡ judged p [] [] r) × ((sizes ≡ sizesThen n p sizes r) × Tables sizes)
+sizes-left p sizes r f k w {n} e tables same = (judged-placed p [] [] r f k w e, (sizes-then p sizes r same n, tables))
 
-    module _ (tables : Tables sizes) (same : sizesAfter (p .counts .tx) sizes r ≡ sizes) where
-      sizes-then : (n : Next) → sizes ≡ sizesThen n p sizes r
-      sizes-then (Go q) = sym same
-      sizes-then (Refuse a k) = refl
-
-      pub sizes-left : {sets′ : List ℕ} → sets′ ≡ setsThen n p sets r
-          → (n ≡ judged p sizes sets r) × (((sizes ≡ sizesThen n p sizes r) × Tables sizes) × (sets′ ≡ setsThen n p sets r))
-      sizes-left h = (judged-placed, ((sizes-then n, tables), h))
-
-      pub both-left : setsAfter (p .row) sets r ≡ sets
-          → (n ≡ judged p sizes sets r) × (((sizes ≡ sizesThen n p sizes r) × Tables sizes) × (sets ≡ setsThen n p sets r))
-      both-left h = sizes-left (sets-then h n)
+pub sets-then : (p : Progress) (sets : List ℕ) (r : Record) → setsAfter (p .row) sets r ≡ sets → (n : Next) → sets ≡ setsThen n p sets r
+sets-then p sets r same (Go q) = sym same
+sets-then p sets r same (Refuse a k) = refl
 
 -- a broken record is refused for its fault
 pub judged-broken :
@@ -114,3 +111,41 @@ unfolding judged faultReason isKind isWhole
 judged-broken p sizes sets End f = goes _ _ _ _ f (stops _ _ _ _ refl)
 judged-broken p sizes sets BadKind f = goes _ _ _ _ f (stops _ _ _ _ refl)
 judged-broken p sizes sets (Cut kind) f = goes _ _ _ _ f (goes _ _ _ _ refl (stops _ _ _ _ refl))
+
+-- ---- a record that is no signal and no destination
+
+no-signal : (body : SignalBody) → followerOf (Signal body) ≡ follower.Other → ⊥
+unfolding followerOf
+no-signal body e = let z : _≡_ {A = ℕ} 0 1 = cc in omega arith
+
+no-destination : (body : DestinationBody) → followerOf (Destination body) ≡ follower.Other → ⊥
+unfolding followerOf
+no-destination body e = let z : _≡_ {A = ℕ} 0 1 = cc in omega arith
+
+-- it does not come where one of them is
+pub signal-elsewhere : {A : Type 0} (r : Record) {body : SignalBody} → followerOf r ≡ follower.Other → r ≡ Signal body → A
+signal-elsewhere r {body} other is = absurd (no-signal body (rw is at other))
+
+pub destination-elsewhere : {A : Type 0} (r : Record) {body : DestinationBody} → followerOf r ≡ follower.Other → r ≡ Destination body → A
+destination-elsewhere r {body} other is = absurd (no-destination body (rw is at other))
+
+-- it does not ask for the tables, and leaves the sets
+module _ (p : Progress) (sizes sets : List ℕ) where
+  pub judged-other : (r : Record) → followerOf r ≡ follower.Other → judged p [] [] r ≡ judged p sizes sets r
+  unfolding judged placed inData isFree indicatorInData indicatorIsFree
+  judged-other (Destination body) other = absurd (no-destination body other)
+  judged-other (Head order) other = refl
+  judged-other (Node body) other = refl
+  judged-other (Tx frame) other = refl
+  judged-other (Rx frame) other = refl
+  judged-other (Signal body) other = refl
+  judged-other (Broken fault) other = refl
+
+same-sets : (p : Progress) (sets : List ℕ) (r : Record) → followerOf r ≡ follower.Other → setsAfter (p .row) sets r ≡ sets
+unfolding setsAfter
+same-sets p sets =
+    by-destination (λ r. followerOf r ≡ follower.Other → setsAfter (p .row) sets r ≡ sets) (λ body other. absurd (no-destination body other))
+    (λ r none other. none .by _ _)
+
+pub sets-other : (p : Progress) (sets : List ℕ) (r : Record) → followerOf r ≡ follower.Other → (n : Next) → sets ≡ setsThen n p sets r
+sets-other p sets r other n = sets-then p sets r (same-sets p sets r other) n

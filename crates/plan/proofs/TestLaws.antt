@@ -2,7 +2,9 @@
 use mathlib.Core.Path.{_≡_, refl}
 use mathlib.Core.Bool.{Bool, true, false, _&&_, false≢true}
 use Prim.Native.Nat.{ℕ, _≤_, _<_}
-use borrow.Author.Tests.{ltb-true, leb-true}
+use native.Mathlib.Omega.{arith}
+use borrow.Author.Tests.{ltb-true, leb-true, lt-ltb}
+use Rattle.records.specs.declared.record.Eight.{Eight}
 use Rattle.records.specs.declared.record.TxFrame.{TxFrame}
 use Rattle.records.specs.declared.record.RxFrame.{RxFrame}
 use Rattle.records.specs.declared.record.Fault.{Fault}
@@ -15,6 +17,21 @@ use Rattle.plan.specs.Tests.{isKind, isWhole, isPrescaler, zeroPast, txI
 pub and-both : (x y : Bool) → (x && y) ≡ true → (x ≡ true) × (y ≡ true)
 and-both true y e = (refl, e)
 and-both false y e = absurd (false≢true e)
+
+-- past eight bytes there is none
+pub zero-full : (size : ℕ) (b : Eight) → 8 ≤ size → true ≡ zeroPast size b
+unfolding zeroPast
+zero-full size b h =
+    rw (
+      lt-ltb 0 size (omega arith),
+      lt-ltb 1 size (omega arith),
+      lt-ltb 2 size (omega arith),
+      lt-ltb 3 size (omega arith),
+      lt-ltb 4 size (omega arith),
+      lt-ltb 5 size (omega arith),
+      lt-ltb 6 size (omega arith),
+      lt-ltb 7 size (omega arith),
+    )
 
 -- no broken record has a kind and is whole
 pub no-fault : (fault : Fault) → isKind (Broken fault) ≡ true → isWhole (Broken fault) ≡ true → ⊥

@@ -7,14 +7,19 @@ use native.Mathlib.Omega.{arith}
 use borrow.Author.Tests.{leb-true, ltb-true}
 use lib.Dec.{leb, ltb}
 use lib.ListN.{length, getD, replicate, length-set, length-replicate}
+use Rattle.records.specs.declared.record.SignalBody.{SignalBody}
+use Rattle.records.specs.declared.record.DestinationBody.{DestinationBody}
+use Rattle.records.specs.declared.record.Follower.{Follower}
+use Rattle.records.specs.declared.record.Follower.the-variants as follower
 use Rattle.records.specs.declared.record.Record.{Record}
 use Rattle.records.specs.declared.record.Record.the-variants.{Head, Node, Tx, Rx, Signal, Destination, Broken}
 use Rattle.records.specs.declared.decode.Step.{Step}
-use Rattle.records.specs.Kinds.{signalStage, stageOf}
+use Rattle.records.specs.Kinds.{signalBytes, destinationBytes, signalStage, stageOf}
 use Rattle.records.specs.Records.{recordsAt, records}
-use Rattle.records.specs.Reading.{stepAt}
+use Rattle.records.specs.Reading.{stepAt, followerOf, followerAt}
 use Rattle.base.specs.Pick.{pick}
 use Rattle.records.proofs.Variants.{by-destination}
+use Rattle.records.proofs.Followers.{step-signal, step-destination}
 use Rattle.records.proofs.RecordLaws.{step-onward, records-end, records-step}
 use Rattle.plan.specs.Limits.{mostNodes, mostTx, mostRx, mostSignals, mostInFrame, mostDestinations, mostOfSignal}
 use Rattle.plan.specs.declared.verdict.Reason.{Reason}
@@ -25,11 +30,11 @@ use Rattle.plan.specs.declared.progress.Progress.{Progress}
 use Rattle.plan.specs.declared.progress.Next.{Next}
 use Rattle.plan.specs.declared.progress.Next.the-variants.{Go, Refuse}
 use Rattle.plan.specs.Progress.{counted, rowAfter, after, start}
-use Rattle.plan.specs.Tests.{mayStand, hasRoom, inRange}
-use Rattle.plan.specs.Check.{judged, sizesAfter, setsAfter, ended, verdictOf, checkOn, checkPlan, setsUnless, setsOn, setsOf, setsFold}
+use Rattle.plan.specs.Tests.{mayStand, hasRoom, inRange, inData, isFree, indicatorInData, indicatorIsFree}
+use Rattle.plan.specs.Check.{placed, judged, sizesAfter, setsAfter, ended, verdictOf, checkOn, checkPlan, setsUnless, setsOn, setsOf, setsFold}
 use Rattle.plan.specs.Motion.{Fair, Tables, sizesThen, setsThen}
 use Rattle.plan.proofs.TestLaws.{and-both, no-fault}
-use Rattle.plan.proofs.CheckLaws.{Passed, passed}
+use Rattle.plan.proofs.CheckLaws.{Passed, passed, sizes-then, sets-then, sets-other}
 
 -- ---- the bounds are kept by every record that is taken
 
@@ -96,13 +101,17 @@ pub ends :
 unfolding checkOn setsOn
 ends plan at p sizes sets s h = let end = records-end plan at h in (rw end at (s .rest), rw end at (s .joins))
 
+-- before the end
+pub record Here (plan : List ℕ) (at : ℕ) (p : Progress) (sizes sets : List ℕ) : Type 0 where
+  pub short : length plan < 2 ^ 63
+  pub inside : at < length plan
+  pub stood : Stands plan at p sizes sets
+
 -- a record that was read there and judged
 pub record Turned (plan : List ℕ) (at : ℕ) (p : Progress) (sizes sets : List ℕ) (read : Step) (next : Next) : Type 0 where
-  pub short : length plan < 2 ^ 63
-  pub here : at < length plan
+  pub here : Here plan at p sizes sets
   pub found : read ≡ stepAt plan at
   pub done : next ≡ judged p sizes sets (read .found)
-  pub stood : Stands plan at p sizes sets
 
 -- what a definition over the records makes of those after it
 abbrev onRest : {A : Type 0} → List ℕ → Progress → List ℕ → List ℕ → Step → (Progress → List ℕ → List ℕ → List Record → A) → A
@@ -112,15 +121,15 @@ onRest plan p sizes sets read f =
 module _ {plan : List ℕ} {at : ℕ} {p : Progress} {sizes sets : List ℕ} {read : Step} {next : Next} (t : Turned plan at p sizes sets read next) where
   decides : verdictOf next (onRest plan p sizes sets read checkOn) ≡ checkPlan plan
   unfolding checkOn
-  decides = rw (t .done, t .found) (rw (records-step plan at (t .here)) at (t .stood .rest))
+  decides = rw (t .done, t .found) (rw (records-step plan at (t .here .inside)) at (t .here .stood .rest))
 
   joined : setsUnless next sets (onRest plan p sizes sets read setsOn) ≡ setsOf plan
   unfolding setsOn
-  joined = rw (t .done, t .found) (rw (records-step plan at (t .here)) at (t .stood .joins))
+  joined = rw (t .done, t .found) (rw (records-step plan at (t .here .inside)) at (t .here .stood .joins))
 
   -- the place behind it
-  onward : (at < read .next) × (read .next ≤ length plan)
-  onward = rw (t .found) (step-onward plan at (t .here))
+  pub onward : (at < read .next) × (read .next ≤ length plan)
+  onward = rw (t .found) (step-onward plan at (t .here .inside))
 
   pub refuses :
       {a : Reason} {n : ℕ} {sets′ : List ℕ} → next ≡ Refuse a n → sets′ ≡ setsThen next p sets (read .found)
@@ -138,17 +147,61 @@ module _ {plan : List ℕ} {at : ℕ} {p : Progress} {sizes sets : List ℕ} {re
       let et′ : sets′ ≡ setsAfter (p .row) sets (read .found) = rw is at et in
       rw (pass .1, et′, es′)
       (record {
-        fair = fair-after p sizes sets (read .found) (t .stood .fair) (pass .0) (omega (arith, onward, t .short, t .stood .number));
+        fair = fair-after p sizes sets (read .found) (t .here .stood .fair) (pass .0) (omega (arith, onward, t .here .short, t .here .stood .number));
         tables = rw es′ at tables;
-        long = sets-length (p .row) sets (read .found) ∙ t .stood .long;
+        long = sets-length (p .row) sets (read .found) ∙ t .here .stood .long;
         inside = onward .1;
-        number = omega (arith, onward, t .stood .number);
+        number = omega (arith, onward, t .here .stood .number);
         rest = rw is at decides;
         joins = rw is at joined;
       })
 
   pub falls : length plan - read .next < length plan - at
   falls = omega (arith, onward)
+
+-- ---- a signal and a destination, which are read apart from the other records
+
+module _ {plan : List ℕ} {at : ℕ} {p : Progress} {sizes sets : List ℕ} {found : Follower} (h : Here plan at p sizes sets) (told : found ≡ followerAt plan at)
+    {next : Next} where
+  pub signal-turned :
+      {body : SignalBody} → found ≡ follower.Signal body → next ≡ judged p [] [] (Signal body)
+      → Turned plan at p sizes sets (record { found = Signal body; next = at + signalBytes }) next
+  unfolding judged placed inData isFree indicatorInData indicatorIsFree
+  signal-turned is done = record { here = h; found = step-signal plan at (sym is ∙ told); done = done }
+
+  pub destination-turned :
+      {body : DestinationBody} → found ≡ follower.Destination body → next ≡ judged p sizes sets (Destination body)
+      → Turned plan at p sizes sets (record { found = Destination body; next = at + destinationBytes }) next
+  destination-turned is done = record { here = h; found = step-destination plan at (sym is ∙ told); done = done }
+
+module _ {plan : List ℕ} {at behind : ℕ} {p : Progress} {sizes sets : List ℕ} {next : Next} where
+  module _ {body : SignalBody} (t : Turned plan at p sizes sets (record { found = Signal body; next = behind }) next) where
+    pub signal-goes : {q : Progress} → next ≡ Go q → Stands plan behind q sizes sets
+    unfolding sizesAfter setsAfter
+    signal-goes go =
+        goes t go (sizes-then p sizes (Signal body) refl next) (t .here .stood .tables) (sets-then p sets (Signal body) refl next)
+
+    pub signal-refuses : {a : Reason} {n : ℕ} → next ≡ Refuse a n → (Refused a n ≡ checkPlan plan) × (sets ≡ setsOf plan)
+    unfolding setsAfter
+    signal-refuses stop = refuses t stop (sets-then p sets (Signal body) refl next)
+
+  pub destination-goes :
+      {body : DestinationBody} {q : Progress} {sets′ : List ℕ} → Turned plan at p sizes sets (record { found = Destination body; next = behind }) next
+      → next ≡ Go q → sets′ ≡ setsThen next p sets (Destination body) → Stands plan behind q sizes sets′
+  unfolding sizesAfter
+  destination-goes {body} t go et = goes t go (sizes-then p sizes (Destination body) refl next) (t .here .stood .tables) et
+
+-- ---- any other record leaves the sets
+
+module _ {plan : List ℕ} {at : ℕ} {p : Progress} {sizes sets : List ℕ} {read : Step} {next : Next} (t : Turned plan at p sizes sets read next)
+    (other : followerOf (read .found) ≡ follower.Other) where
+  pub other-goes :
+      {q : Progress} {sizes′ : List ℕ} → next ≡ Go q → sizes′ ≡ sizesThen next p sizes (read .found) → Tables sizes′
+      → Stands plan (read .next) q sizes′ sets
+  other-goes go es tables = goes t go es tables (sets-other p sets (read .found) other next)
+
+  pub other-refuses : {a : Reason} {n : ℕ} → next ≡ Refuse a n → (Refused a n ≡ checkPlan plan) × (sets ≡ setsOf plan)
+  other-refuses stop = refuses t stop (sets-other p sets (read .found) other next)
 
 -- ---- a good plan's sets are those that all its records leave
 

@@ -17,10 +17,13 @@ fn is_prescaler(p: u8) -> bool
     (p == 1) | (p == 2) | (p == 10) | (p == 20)
 }
 
-// Whether the bytes past the size are zero.
+// Whether the bytes past the size are zero; past eight there is none.
 fn zero_past(size: u8, b: Eight) -> bool
     ensures { λ r. ⌜ r ≡ zeroPast size b ⌝ }
 {
+    if 8 <= size {
+        return true;
+    }
     ((0 < size) | (b.0 == 0))
         & ((1 < size) | (b.1 == 0))
         & ((2 < size) | (b.2 == 0))

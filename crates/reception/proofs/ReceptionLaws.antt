@@ -14,7 +14,7 @@ use Rattle.base.specs.Numbers.{byteAt}
 use Rattle.bits.proofs.PayloadLaws.{Bytes}
 use Rattle.records.specs.declared.record.RxNumber.{RxNumber}
 use Rattle.area.specs.Layout.{counterByte, planStart, rowBound, rxTimer}
-use Rattle.area.specs.Layout.{marked, counter, order, nodeCount, txCount, rxCount, firstRow, rowCount, planOf, txFrame, rxFrame, claims}
+use Rattle.area.specs.Layout.{marked, counter, order, nodeCount, txCount, rxCount, planOf, txFrame, rxFrame, claims}
 use Rattle.area.specs.Claims.{accepted}
 use Rattle.area.proofs.Kept.{Kept, kept-refl, kept-then, kept-allDone, counter-allDone, in-plan}
 use Rattle.area.proofs.Kept.{marked-kept, order-kept, nodeCount-kept, txCount-kept, rxCount-kept, planOf-kept, txFrame-kept, rxFrame-kept, claims-kept}
@@ -25,9 +25,9 @@ use Rattle.answers.specs.declared.Received.{Received}
 use Rattle.answers.specs.declared.Received.the-variants.{Accepted, NoRow, TooShort, Refused}
 use Rattle.reception.specs.declared.lookup.Found.{Found}
 use Rattle.reception.specs.declared.lookup.Found.the-variants.{At, Nothing}
-use Rattle.reception.specs.Lookup.{rowsPart, lookedUp}
+use Rattle.reception.specs.Lookup.{lookedUp}
 use Rattle.reception.specs.Reception.{padded, restarted, acceptedArea, foundAnswer, foundArea, receivedAnswer, receivedArea}
-use Rattle.reception.proofs.Search.{found-among}
+use Rattle.reception.proofs.Search.{found-small}
 use Rattle.reception.proofs.WalkLaws.{kept-restarted}
 use Rattle.reception.proofs.Outcomes.{goes-on}
 
@@ -38,10 +38,6 @@ pairs :
 unfolding pick
 pairs P true p q = p refl
 pairs P false p q = q refl
-
-found-small : (a : List ℕ) (n id : ℕ) (x : RxNumber) → lookedUp a n id ≡ At x → x .0 < rowBound
-unfolding lookedUp
-found-small a n id x e = omega (arith, found-among (rowCount a n + 1) (rowsPart a n) (rowCount a n) (firstRow a n) id x e)
 
 module _ (a : List ℕ) (n id : ℕ) (payload : List ℕ) where
   -- when a payload is accepted, and for which row
@@ -101,7 +97,7 @@ module _ (a : List ℕ) (b : Bytes a) where
   unfolding acceptedArea restarted
   counter-accepted r payload =
       counter-allDone (order a) (accepted r (padded payload)) (claims a r) _ (narrow-claims a r b)
-      ∙ getD-set-other a (rxTimer r + 1) counterByte _ 0 (λ e. omega arith)
+      ∙ getD-set-other a (rxTimer r) counterByte _ 0 (λ e. omega arith)
 
   module _ (n id : ℕ) (payload : List ℕ) where
     abbrev after : List ℕ

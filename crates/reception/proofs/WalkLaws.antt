@@ -1,135 +1,71 @@
--- One turn of the walk along an Rx frame's records, and that the plan it reads stays as it is.
-use mathlib.Core.Path.{_≡_, refl, sym, ap, _∙_}
-use mathlib.Core.Bool.{Bool, true, false}
-use mathlib.Core.List.{List, [], _∷_}
-use mathlib.Core.Option.{Option, none, some}
+-- One turn of the walk along an Rx frame's signals and destinations; and what the whole of it is.
+use mathlib.Core.Path.{_≡_, sym, ap, _∙_}
+use mathlib.Core.Logic.{_≢_}
+use mathlib.Core.List.{List}
+use mathlib.Core.Option.{none}
 use Prim.Native.Nat.{ℕ, _+_, _%_, _≤_, _<_}
 use native.Mathlib.Omega.{arith}
-use lib.Dec.{eqb}
-use lib.ListN.{length, length-take, length-drop}
-use types.Run.{OneOf}
-use denote.Enum.Declared.{tagOf}
-use Rattle.base.specs.Pick.{pick}
-use Rattle.records.specs.declared.record.SignalBody.{SignalBody}
-use Rattle.records.specs.declared.record.DestinationBody.{DestinationBody}
-use Rattle.records.specs.declared.record.Record.{Record}
-use Rattle.records.specs.declared.record.Record.the-variants.{Head, Node, Tx, Rx, Signal, Destination, Broken}
-use Rattle.records.proofs.record.Record.{the-type}
-use Rattle.records.specs.declared.decode.Step.{Step}
-use Rattle.records.specs.Records.{recordAt, recordsAt, sizeOf}
-use Rattle.records.specs.Reading.{stepAt}
-use Rattle.records.proofs.Variants.{no-own}
-use Rattle.records.proofs.RecordLaws.{records-end, records-step}
-use Rattle.bits.specs.Payload.{setBit}
-use Rattle.plan.specs.Rows.{copy, Claim, withFailure, claimsFrom, awaited}
-use Rattle.area.specs.Layout.{rowBound, LongEnough, rxTimer, spot, order, signalsPlace, planLength, planOf, rxFrame, claims}
-use Rattle.area.specs.Claims.{RxEvent, accepted, done, allDone}
-use Rattle.area.proofs.Frame.{Narrow, Each}
-use Rattle.area.proofs.Kept.{Kept, kept-refl, kept-low, kept-allDone, planOf-kept}
-use Rattle.area.proofs.ClaimLaws.{claimOf, done-cleared, allDone-numbered, narrow-copy, narrow-failure}
+use lib.ListN.{length}
+use Rattle.base.specs.Numbers.{byteAt, twoAt}
+use Rattle.records.specs.Kinds.{rxAt, rxBytes}
+use Rattle.records.specs.Records.{recordsAt}
+use Rattle.plan.specs.Rows.{copy, Claim, claimsFrom}
+use Rattle.area.specs.Layout.{rowBound, rxTimer, order, rxRecordPlace, stored, claimsAt, claims}
+use Rattle.area.specs.Claims.{accepted, done, allDone, failureWritten}
+use Rattle.area.proofs.Kept.{Kept, kept-refl, kept-low, stored-kept}
+use Rattle.area.proofs.ClaimLaws.{claimOf, allDone-numbered}
+use Rattle.area.proofs.Copies.{copies-destination, copies-signal, copies-stop, copies-end, copies-rx, accepted-claims, kept-failure, done-low}
 use Rattle.reception.specs.Reception.{padded, restarted, acceptedArea}
-use Rattle.reception.specs.Walk.{waitOf, putOne, walked}
-
--- ---- one destination
-
-module _ (o : ℕ) (source : List ℕ) (f p s : ℕ) (a : List ℕ) (tx q : ℕ) where
-  pub put-one :
-      (w : Bool)
-      → putOne o source (waitOf w f) p s a tx q
-      ≡ done o (accepted 0 source) (pick w (setBit o a (spot (tx % 256) f) 0) a) (claimOf 0 tx q (copy p s))
-  unfolding putOne waitOf pick withFailure allDone
-  put-one true = rw (done-cleared o 0 a 0 tx f source)
-  put-one false = refl
-
-  pub kept-put : (w : Bool) → f < 256 → s < 256 → q < 256 → Kept a (putOne o source (waitOf w f) p s a tx q)
-  unfolding putOne
-  kept-put w hf hs hq = kept-allDone o (accepted 0 source) _ a (narrow w)
-    where
-      here : Narrow (claimOf 0 tx q (copy p s))
-      here = narrow-copy 0 tx q hq p s (omega arith)
-
-      narrow : (w : Bool) → Each Narrow (withFailure 0 (waitOf w f) tx (claimOf 0 tx q (copy p s) ∷ []))
-      narrow true = unfold waitOf pick withFailure in (narrow-failure 0 tx f hf, (here, tt))
-      narrow false = unfold waitOf pick withFailure in (here, tt)
+use Rattle.reception.specs.Walk.{walked}
 
 -- ---- the record at a place
 
-module _ (plan : List ℕ) (k o : ℕ) (source : List ℕ) (w : Option ℕ) (p s : ℕ) (a : List ℕ) where
-  pub walk-end : length plan ≤ k → walked o source w p s plan k a ≡ a
-  unfolding walked claimsFrom allDone
-  walk-end h = rw (records-end plan k h)
+module _ (o : ℕ) (source : List ℕ) (p s : ℕ) (bytes : List ℕ) (k : ℕ) (a : List ℕ) where
+  pub walk-end : length bytes < k + 4 → walked o source p s bytes k a ≡ a
+  unfolding walked allDone
+  walk-end h = rw (copies-end 0 p s bytes k h)
 
-  module _ (inside : k < length plan) where
-    pub walk-signal : (body : SignalBody) → Signal body ≡ recordAt plan k
-        → walked o source w p s plan k a ≡ walked o source w (body .position) (body .size) plan (stepAt plan k .next) a
-    unfolding walked claimsFrom
-    walk-signal body e = rw (records-step plan k inside, ← e)
+  pub walk-stop : byteAt bytes k ≢ 5 → byteAt bytes k ≢ 6 → walked o source p s bytes k a ≡ a
+  unfolding walked allDone
+  walk-stop n5 n6 = rw (copies-stop 0 p s bytes k n5 n6)
 
-    pub walk-destination :
-        (body : DestinationBody) → Destination body ≡ recordAt plan k
-        → walked o source w p s plan k a
-        ≡ walked o source none p s plan (stepAt plan k .next) (putOne o source w p s a (body .tx .0) (body .position))
-    unfolding walked claimsFrom putOne
-    walk-destination body e = rw (records-step plan k inside, ← e) (split w)
-      where
-        rest : List Claim
-        rest = claimsFrom 0 none p s (recordsAt plan (k + sizeOf (Destination body)))
+  pub walk-signal :
+      k + 3 ≤ length bytes → byteAt bytes k ≡ 5
+      → walked o source p s bytes k a ≡ walked o source (byteAt bytes (k + 1)) (byteAt bytes (k + 2)) bytes (k + 3) a
+  unfolding walked
+  walk-signal h e = rw (copies-signal 0 p s bytes k h e)
 
-        split :
-            (w : Option ℕ)
-            → allDone o (accepted 0 source) (withFailure 0 w (body .tx .0) (claimOf 0 (body .tx .0) (body .position) (copy p s) ∷ rest)) a
-            ≡ allDone o (accepted 0 source) rest
-            (allDone o (accepted 0 source) (withFailure 0 w (body .tx .0) (claimOf 0 (body .tx .0) (body .position) (copy p s) ∷ [])) a)
-        split none = unfold allDone withFailure in refl
-        split (some f) = unfold allDone withFailure in refl
-
-    -- any other record ends the walk, as a `match` tells by the numbers of the variants
-    pub walk-stop :
-        (r : Record) → r ≡ recordAt plan k → OneOf (0 ∷ 1 ∷ 2 ∷ 3 ∷ 6 ∷ []) (tagOf the-type r) → walked o source w p s plan k a ≡ a
-    unfolding walked claimsFrom allDone
-    walk-stop r e m =
-        rw (records-step plan k inside, ← e)
-        (ap (λ (cs : List Claim). allDone o (accepted 0 source) cs a) (no-own r m {A = List Claim} [] _ _))
-
--- ---- the plan in an area
-
-pub plan-length : (a : List ℕ) → LongEnough a → length (planOf a) ≡ planLength a
-unfolding planOf
-plan-length a h = rw (length-take, length-drop) (omega arith)
-
--- what is met in the area as it has become is what stands in the plan that it was opened with
-pub met-kept : {a b : List ℕ} → Kept a b → (k : ℕ) {x : Step} → x ≡ stepAt (planOf b) k → x ≡ stepAt (planOf a) k
-met-kept kept k e = rw (planOf-kept kept) at e
+  -- t is the low byte of the destination's Tx number
+  pub walk-destination :
+      (t : ℕ) → t < 256 → t ≡ byteAt bytes (k + 2) → k + 4 ≤ length bytes → byteAt bytes k ≡ 6
+      → walked o source p s bytes k a
+      ≡ walked o source p s bytes (k + 4) (done o (accepted 0 source) a (claimOf 0 t (byteAt bytes (k + 3)) (copy p s)))
+  unfolding walked allDone
+  walk-destination t small low h e =
+      let next : k + 1 + 1 ≡ k + 2 = omega arith in
+      let same : twoAt bytes (k + 1) % 256 ≡ t % 256 = rw next (omega arith) in
+      ap (λ (cs : List Claim). allDone o (accepted 0 source) cs a) (copies-destination 0 p s bytes k h e)
+      ∙ ap (allDone o (accepted 0 source) (claimsFrom 0 none p s (recordsAt bytes (k + 4))))
+      (done-low o (accepted 0 source) a 0 (twoAt bytes (k + 1)) t (byteAt bytes (k + 3)) (copy p s) same)
 
 -- ---- the whole walk
 
 pub kept-restarted : (a : List ℕ) (r : ℕ) → r < rowBound → Kept a (restarted a r)
 unfolding restarted
-kept-restarted a r h = kept-low (rxTimer r + 1) _ (omega arith) (omega arith) (kept-refl a)
+kept-restarted a r h = kept-low (rxTimer r) _ (omega arith) (omega arith) (kept-refl a)
 
--- the Rx number in a claim does not bear on what is done
-claims-rx :
-    (o : ℕ) (e : RxEvent) (n m : ℕ) (w : Option ℕ) (p s : ℕ) (rs : List Record) (a : List ℕ)
-    → allDone o e (claimsFrom n w p s rs) a ≡ allDone o e (claimsFrom m w p s rs) a
-unfolding claimsFrom withFailure allDone done
-claims-rx o e n m w p s [] a = refl
-claims-rx o e n m w p s (Signal body ∷ rs) a = claims-rx o e n m w (body .position) (body .size) rs a
-claims-rx o e n m none p s (Destination body ∷ rs) a = claims-rx o e n m none p s rs _
-claims-rx o e n m (some f) p s (Destination body ∷ rs) a = claims-rx o e n m none p s rs _
-claims-rx o e n m w p s (Head x ∷ rs) a = refl
-claims-rx o e n m w p s (Node body ∷ rs) a = refl
-claims-rx o e n m w p s (Tx x ∷ rs) a = refl
-claims-rx o e n m w p s (Rx x ∷ rs) a = refl
-claims-rx o e n m w p s (Broken fault ∷ rs) a = refl
-
--- once the row has started again, the walk from the end of the Rx record on does what an acceptance does
+-- once the row has started again and the failure bit is written, the walk from the end of the Rx record on does what an acceptance does
 pub walked-accepted :
-    (a : List ℕ) (r : ℕ) (payload b : List ℕ) → r < rowBound → b ≡ restarted a r
-    → walked (order a) (padded payload) (waitOf (eqb (rxFrame a r .enable) 1) (rxFrame a r .position)) 0 0 (planOf b) (signalsPlace a r) b
-    ≡ acceptedArea a r payload
-unfolding walked waitOf acceptedArea claims awaited
-walked-accepted a r payload b h e =
+    (a : List ℕ) (r : ℕ) (payload b c : List ℕ) → r < rowBound → b ≡ restarted a r → c ≡ failureWritten (order a) 0 b (rxRecordPlace a r)
+    → rxAt (stored b) (rxRecordPlace a r) .position < 256
+    → walked (order a) (padded payload) 0 0 (stored c) (rxRecordPlace a r + rxBytes) c ≡ acceptedArea a r payload
+unfolding walked acceptedArea claims
+walked-accepted a r payload b c h e f narrow =
+    let at = rxRecordPlace a r in
     let kept : Kept a b = rw e (kept-restarted a r h) in
-    rw (planOf-kept kept, ← e)
-    (claims-rx (order a) (accepted 0 (padded payload)) 0 r _ 0 0 (recordsAt (planOf a) (signalsPlace a r)) b
-    ∙ sym (allDone-numbered (order a) r (accepted 0 (padded payload)) _ b))
+    let same : stored c ≡ stored b = rw f (stored-kept (kept-failure (order a) 0 b at narrow)) in
+    rw (same, ← e)
+    (copies-rx (order a) (accepted 0 (padded payload)) 0 r 0 0 (recordsAt (stored b) (at + rxBytes)) c
+    ∙ sym (allDone-numbered (order a) r (accepted 0 (padded payload)) _ c)
+    ∙ ap (allDone (order a) (accepted r (padded payload)) (claimsFrom r none 0 0 (recordsAt (stored b) (at + rxBytes)))) f
+    ∙ sym (accepted-claims (order a) r a at b (padded payload) (stored-kept kept)))

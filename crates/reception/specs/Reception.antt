@@ -1,11 +1,11 @@
 -- "Reception takes node, ID and payload."
-use Prim.Native.Nat.{ℕ, _+_}
+use Prim.Native.Nat.{ℕ}
 use mathlib.Core.List.{List, _++_}
 use lib.Dec.{leb, ltb}
 use lib.ListN.{length, set, take, replicate}
 use Rattle.base.specs.Pick.{pick}
 use Rattle.base.specs.Numbers.{byteAt}
-use Rattle.area.specs.Layout.{rxTimer, marked, order, nodeCount, rxFrame, claims}
+use Rattle.area.specs.Layout.{rxReload, rxTimer, marked, order, nodeCount, rxFrame, claims}
 use Rattle.area.specs.Claims.{accepted, allDone}
 use Rattle.answers.specs.declared.Refusal.the-variants.{NotOpen, NoNode, LongPayload}
 use Rattle.answers.specs.declared.Received.{Received}
@@ -20,7 +20,7 @@ padded payload = take 64 (payload ++ replicate 64 0)
 
 -- what an acceptance does to the row's own state: "the Rx timer takes its reload value"
 unfoldable pub restarted : List ℕ → ℕ → List ℕ
-restarted a r = set a (rxTimer r + 1) (byteAt a (rxTimer r))
+restarted a r = set a (rxTimer r) (byteAt a (rxReload r))
 
 -- "Then in order: the Rx timer takes its reload value; an enabled failure bit becomes 0; signals are copied in plan order, each to its
 -- destinations in order."

@@ -5,18 +5,20 @@ use crate::walk::pad;
 use crate::walk::walk;
 use answers::Received;
 use answers::Refusal;
-use area::frames::rx_frame;
-use area::frames::signals_place;
+use area::claims::write_failure;
+use area::frames::rx_record_place;
+use area::frames::rx_size;
+use area::header::has_node;
 use area::header::is_marked;
-use area::header::node_count;
 use area::layout::ORDER_BYTE;
+use area::layout::rx_reload;
 use area::layout::rx_timer;
-use records::record::RxFrame;
+use records::decode::RX_BYTES;
 use records::record::RxNumber;
 ghost use mathlib.Core.Path.{_≡_};
 ghost use Prim.Native.Nat.{_≤_, _<_};
 ghost use lib.ListN.{length};
-ghost use Rattle.area.specs.Layout.{rowBound, LongEnough, rxFrame};
+ghost use Rattle.area.specs.Layout.{lastPlace, rowBound, LongEnough, rxRecordPlace};
 ghost use Rattle.reception.specs.declared.lookup.Found.the-variants.{At};
 ghost use Rattle.reception.specs.Reception.{restarted, acceptedArea, foundAnswer, foundArea, receivedAnswer, receivedArea};
 
@@ -29,13 +31,14 @@ pub fn receive(area: &mut [u8], node: usize, id: u32, payload: &[u8]) -> Receive
     if !open {
         return Received::Refused(Refusal::NotOpen);
     }
-    if node_count(area) <= node {
+    let there = has_node(area, node);
+    if !there {
         return Received::Refused(Refusal::NoNode);
     }
     if 8 < payload.len() {
         return Received::Refused(Refusal::LongPayload);
     }
-    let Found::At(r) = look_up(area, node, id as usize) else {
+    let Found::At(r) = look_up(area, node, id) else {
         return Received::NoRow;
     };
     deliver(area, r, payload)
@@ -47,31 +50,25 @@ fn deliver(area: &mut [u8], r: RxNumber, payload: &[u8]) -> Received
     ensures answer { λ x. ⌜ x ≡ foundAnswer (now (area .entry)) (At r) (now (payload .entry)) ⌝ }
     ensures bytes { λ x. ⌜ now (area .exit) ≡ foundArea (now (area .entry)) (At r) (now (payload .entry)) ⌝ }
 {
-    let frame = rx_frame(area, r);
-    if payload.len() < base::wide(frame.size) {
+    let at = rx_record_place(area, r);
+    if payload.len() < rx_size(area, at) {
         return Received::TooShort;
     }
-    accept(area, r, frame, payload);
+    accept(area, r, at, payload);
     Received::Accepted
 }
 
-// An accepted payload of Rx frame `r`, whose record is `frame`: the row starts again, and then the payload goes along the frame's records.
-fn accept(area: &mut [u8], r: RxNumber, frame: RxFrame, payload: &[u8])
-    requires { ⌜ (r .0 < rowBound) × (frame ≡ rxFrame (now area) (r .0)) × (length (now payload) ≤ 8) × LongEnough (now area) ⌝ }
+// An accepted payload of Rx frame `r`, whose record is at `at`: the row starts again, the failure bit becomes 0, and then the payload goes along
+// the frame's signals.
+fn accept(area: &mut [u8], r: RxNumber, at: usize, payload: &[u8])
+    requires { ⌜ (r .0 < rowBound) × (at ≡ rxRecordPlace (now area) (r .0)) × (at ≤ lastPlace) × (length (now payload) ≤ 8) × LongEnough (now area) ⌝ }
     ensures { λ x. ⌜ now (area .exit) ≡ acceptedArea (now (area .entry)) (r .0) (now (payload .entry)) ⌝ }
 {
     let order = area[ORDER_BYTE];
-    let from = signals_place(area, r);
-    let source = pad(payload);
     restart(area, r);
-    walk(
-        order,
-        &source,
-        frame.enable == 1,
-        base::wide(frame.position),
-        area,
-        from,
-    );
+    write_failure(order, 0, area, at);
+    let source = pad(payload);
+    walk(order, &source, area, at + RX_BYTES);
 }
 
 // The Rx timer takes its reload value.
@@ -80,6 +77,5 @@ fn restart(area: &mut [u8], r: RxNumber)
     ensures { λ x. ⌜ now (area .exit) ≡ restarted (now (area .entry)) (r .0) ⌝ }
 {
     let timer = rx_timer(r);
-    let count = timer + 1;
-    area[count] = area[timer];
+    area[timer] = area[rx_reload(r)];
 }

@@ -1,18 +1,19 @@
 // The way of an accepted payload to the bits that its Rx frame owns.
 use area::claims::copy_claim;
-use area::claims::set_failure;
-use area::frames::step_of;
-use area::header::plan_length;
-use records::record::Record;
+use area::frames::plan_byte;
+use area::layout::PLAN_ROOM;
+use base::wide;
+use records::decode::DESTINATION_BYTES;
+use records::decode::DESTINATION_KIND;
+use records::decode::SIGNAL_BYTES;
+use records::decode::SIGNAL_KIND;
 use records::record::TxNumber;
 ghost use mathlib.Core.Path.{_≡_};
-ghost use Prim.Native.Nat.{_%_, _≤_, _<_};
+ghost use Prim.Native.Nat.{_≤_};
 ghost use lib.ListN.{length};
-ghost use Rattle.base.specs.Pick.{pick};
-ghost use Rattle.bits.specs.Payload.{setBit};
-ghost use Rattle.area.specs.Layout.{LongEnough, spot, planOf};
+ghost use Rattle.area.specs.Layout.{planRoom, LongEnough, stored};
 ghost use Rattle.reception.specs.Reception.{padded};
-ghost use Rattle.reception.specs.Walk.{waitOf, putOne, walked};
+ghost use Rattle.reception.specs.Walk.{walked};
 
 // The payload with zero bytes after it, 64 in all.
 pub fn pad(payload: &[u8]) -> [u8; 64]
@@ -26,74 +27,29 @@ pub fn pad(payload: &[u8]) -> [u8; 64]
     source
 }
 
-// The failure bit at a position of a Tx frame's payload becomes 0, where one is awaited.
-fn clear_failure(order: u8, waits: bool, position: usize, area: &mut [u8], tx: TxNumber)
-    requires { ⌜ (position < 256) × LongEnough (now area) ⌝ }
-    ensures { λ r. ⌜ now (area .exit) ≡ pick waits (setBit order (now (area .entry)) (spot (tx .0 % 256) position) 0) (now (area .entry)) ⌝ }
+// From place `from` of the plan on: a signal says what is copied, a destination where to, and any other record ends the walk.
+pub fn walk(order: u8, source: &[u8], area: &mut [u8], from: usize)
+    requires { ⌜ (length (now source) ≡ 64) × (from ≤ planRoom) × LongEnough (now area) ⌝ }
+    ensures { λ r. ⌜ now (area .exit) ≡ walked order (now (source .entry)) 0 0 (stored (now (area .entry))) from (now (area .entry)) ⌝ }
 {
-    if waits {
-        set_failure(order, area, tx, position, 0);
-    }
-}
-
-// One destination, after the failure bit where one is awaited.
-fn put_one(
-    order: u8,
-    source: &[u8],
-    waits: bool,
-    position: usize,
-    p: usize,
-    s: usize,
-    area: &mut [u8],
-    tx: TxNumber,
-    q: usize,
-)
-    requires { ⌜ (length (now source) ≡ 64) × (position < 256) × (p < 256) × (s < 256) × (q < 256) × LongEnough (now area) ⌝ }
-    ensures { λ r. ⌜ now (area .exit) ≡ putOne order (now (source .entry)) (waitOf waits position) p s (now (area .entry)) (tx .0) q ⌝ }
-{
-    clear_failure(order, waits, position, area, tx);
-    copy_claim(order, source, p, s, area, tx, q);
-}
-
-// The records from place `from` of the plan on: a signal says what is copied, a destination where to, and any other record ends the walk.
-pub fn walk(order: u8, source: &[u8], awaits: bool, position: usize, area: &mut [u8], from: usize)
-    requires { ⌜ (length (now source) ≡ 64) × (position < 256) × LongEnough (now area) ⌝ }
-    ensures { λ r. ⌜ now (area .exit) ≡
-        walked order (now (source .entry)) (waitOf awaits position) 0 0 (planOf (now (area .entry))) from (now (area .entry)) ⌝ }
-{
-    let n = plan_length(area);
-    let mut k = from;
+    let mut at = from;
     let mut p = 0;
     let mut s = 0;
-    let mut waits = awaits;
-    while k < n {
-        let step = step_of(area, k);
-        let met = step.found;
-        match met {
-            Record::Signal(body) => {
-                p = base::wide(body.position);
-                s = base::wide(body.size);
-                k = step.next;
-            }
-            Record::Destination(body) => {
-                let tx = body.tx;
-                put_one(
-                    order,
-                    source,
-                    waits,
-                    position,
-                    p,
-                    s,
-                    area,
-                    tx,
-                    base::wide(body.position),
-                );
-                waits = false;
-                k = step.next;
-            }
-            _ => {
+    while at + DESTINATION_BYTES <= PLAN_ROOM {
+        let kind = plan_byte(area, at);
+        if kind == DESTINATION_KIND {
+            // a Tx number is below 256: its low byte says it
+            let t = TxNumber(wide(plan_byte(area, at + 2)));
+            let q = wide(plan_byte(area, at + 3));
+            copy_claim(order, source, p, s, area, t, q);
+            at += DESTINATION_BYTES;
+        } else {
+            if kind != SIGNAL_KIND {
                 return;
             }
+            p = wide(plan_byte(area, at + 1));
+            s = wide(plan_byte(area, at + 2));
+            at += SIGNAL_BYTES;
         }
     }
 }

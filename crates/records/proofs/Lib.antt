@@ -1,3 +1,4 @@
 pub mod RecordLaws
+pub mod Followers
 pub mod Variants
 pub mod ListingRecords

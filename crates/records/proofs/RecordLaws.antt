@@ -52,6 +52,12 @@ fields-size kind plan at h =
     by-eqb P kind 5 0 0 (λ e. rw e) (λ n5.
     by-eqb P kind 6 0 0 (λ e. rw e) (λ n6. absurd (omega (arith, no-length kind n1 n2 n3 n4 n5 n6))))))))
 
+-- what holds of every fault, and of the fields of the kind whose byte stands at a place, holds of the record there
+pub by-whole :
+    (P : Record → Type 0) (plan : List ℕ) (at : ℕ) → ((fault : Fault) → P (Broken fault)) → P (fieldsAt (byteAt plan at) plan at) → P (recordAt plan at)
+unfolding recordAt
+by-whole P plan at broken whole = both P _ _ _ (broken End) (both P _ _ _ (broken BadKind) (both P _ _ _ (broken (Cut _)) whole))
+
 -- ---- what holds of each kind, with the fields that stand there, and of a fault holds of the record at a place
 
 module _ (P : Record → Type 0) (plan : List ℕ) (at : ℕ) (broken : (fault : Fault) → P (Broken fault)) (head : P (Head (byteAt plan (at + 1))))
@@ -70,8 +76,7 @@ module _ (P : Record → Type 0) (plan : List ℕ) (at : ℕ) (broken : (fault :
       by-eqb Q kind 6 0 0 (λ e. rw e destination) (λ n6. rw (← (no-fields kind n1 n2 n3 n4 n5 n6 plan at)) (broken BadKind)))))))
 
   pub by-record : P (recordAt plan at)
-  unfolding recordAt
-  by-record = both P _ _ _ (broken End) (both P _ _ _ (broken BadKind) (both P _ _ _ (broken (Cut _)) (by-fields _)))
+  by-record = by-whole P plan at broken (by-fields _)
 
 pub tx-there : (P : TxFrame → Type 0) (plan : List ℕ) (at : ℕ) → P noTx → P (txAt plan at) → P (asTx (recordAt plan at))
 unfolding asTx

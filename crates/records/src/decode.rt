@@ -2,6 +2,7 @@
 use crate::record::DestinationBody;
 use crate::record::Eight;
 use crate::record::Fault;
+use crate::record::Follower;
 use crate::record::NodeBody;
 use crate::record::Record;
 use crate::record::RxFrame;
@@ -9,10 +10,11 @@ use crate::record::SignalBody;
 use crate::record::TxFrame;
 use crate::record::TxNumber;
 ghost use mathlib.Core.Path.{_≡_};
-ghost use Prim.Native.Nat.{_+_, _≤_};
+ghost use Prim.Native.Nat.{_+_, _≤_, _<_};
 ghost use lib.ListN.{length};
 ghost use Rattle.records.specs.Kinds.{lengthOf, stageOfKind, eightAt, txAt, rxAt, fieldsAt, faultStage, stageOf};
-ghost use Rattle.records.specs.Reading.{stepAt};
+ghost use Rattle.records.specs.Reading.{stepAt, followerAt};
+ghost use Rattle.records.specs.declared.record.Record.the-variants.{Signal, Destination};
 
 fn eight_at(plan: &[u8], at: usize) -> Eight
     requires { ⌜ at + 8 ≤ length (now plan) ⌝ }
@@ -65,6 +67,26 @@ fn rx_at(plan: &[u8], at: usize) -> RxFrame
     }
 }
 
+fn signal_at(plan: &[u8], at: usize) -> SignalBody
+    requires { ⌜ at + 3 ≤ length (now plan) ⌝ }
+    ensures { λ r. ⌜ Signal r ≡ fieldsAt 5 (now (plan .entry)) at ⌝ }
+{
+    SignalBody {
+        position: plan[at + 1],
+        size: plan[at + 2],
+    }
+}
+
+fn destination_at(plan: &[u8], at: usize) -> DestinationBody
+    requires { ⌜ at + 4 ≤ length (now plan) ⌝ }
+    ensures { λ r. ⌜ Destination r ≡ fieldsAt 6 (now (plan .entry)) at ⌝ }
+{
+    DestinationBody {
+        tx: TxNumber(base::two_at(plan, at + 1)),
+        position: plan[at + 3],
+    }
+}
+
 // ---- the stages of a plan, in the order in which a plan goes through them
 
 pub const HEAD_STAGE: u8 = 1;
@@ -80,6 +102,11 @@ pub const SIGNAL_STAGE: u8 = 5;
 pub const DESTINATION_STAGE: u8 = 6;
 
 // ---- the table of kinds: how many bytes a kind has, which stage it belongs to, and what its fields are
+
+// The kinds that a walk along the records of a row tells apart.
+pub const SIGNAL_KIND: u8 = 5;
+
+pub const DESTINATION_KIND: u8 = 6;
 
 // How many bytes a record has, its kind byte among them.
 pub const HEAD_BYTES: usize = 2;
@@ -164,16 +191,10 @@ fn fields_at(kind: u8, plan: &[u8], at: usize) -> Record
         return Record::Rx(rx_at(plan, at));
     }
     if kind == 5 {
-        return Record::Signal(SignalBody {
-            position: plan[at + 1],
-            size: plan[at + 2],
-        });
+        return Record::Signal(signal_at(plan, at));
     }
     if kind == 6 {
-        return Record::Destination(DestinationBody {
-            tx: TxNumber(base::two_at(plan, at + 1)),
-            position: plan[at + 3],
-        });
+        return Record::Destination(destination_at(plan, at));
     }
     Record::Broken(Fault::BadKind)
 }
@@ -237,4 +258,27 @@ pub fn step_at(plan: &[u8], at: usize) -> Step
         found,
         next: at + size,
     }
+}
+
+// The signal or destination at a place, where one stands there whole. Most records of a plan are such, and a caller that asks for them alone
+// has their few fields at hand, where a record of any kind has room for a Tx frame.
+pub fn follower_at(plan: &[u8], at: usize) -> Follower
+    requires { ⌜ at < length (now plan) ⌝ }
+    ensures { λ r. ⌜ r ≡ followerAt (now (plan .entry)) at ⌝ }
+{
+    let kind = plan[at];
+    let left = plan.len() - at;
+    if kind == 6 {
+        if left < DESTINATION_BYTES {
+            return Follower::Other;
+        }
+        return Follower::Destination(destination_at(plan, at));
+    }
+    if kind == 5 {
+        if left < SIGNAL_BYTES {
+            return Follower::Other;
+        }
+        return Follower::Signal(signal_at(plan, at));
+    }
+    Follower::Other
 }

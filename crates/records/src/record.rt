@@ -54,6 +54,14 @@ pub struct DestinationBody {
     pub position: u8,
 }
 
+// What follows an Rx frame: its signals, and their destinations.
+pub enum Follower {
+    Signal(SignalBody),
+    Destination(DestinationBody),
+    // any other record, and none
+    Other,
+}
+
 // Why there is no whole record at a place.
 pub enum Fault {
     // the plan ends here

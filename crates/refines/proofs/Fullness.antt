@@ -8,6 +8,7 @@ use lib.ListN.{length, getD}
 use borrow.Author.Tests.{ltb-true}
 use Rattle.base.specs.Pick.{pick}
 use Rattle.base.proofs.Picks.{picks}
+use Rattle.base.proofs.Ranges.{at-most-is}
 use Rattle.bits.specs.Digit.{digit}
 use Rattle.bits.specs.Owners.{owners}
 use Rattle.bits.proofs.DigitLaws.{digit-lt}
@@ -56,7 +57,9 @@ module _ (plan : List ℕ) (good : GoodPlan plan) where
 
 module _ {plan a : List ℕ} {s : State} (h : Held plan a s) where
   stored : (t : ℕ) → t < length (txOf plan) → ownedBits a t ≡ ownedBelow (allClaims (rowsOf plan)) t 64
-  stored t l = omega (arith, h .reads .tx t l .full, count-held plan (h .good) t 64, owners-le (getD (setsOf plan) t 0) 64)
+  stored t l =
+      let e = h .reads .tx t l .full in
+      at-most-is 64 _ (omega (arith, e, owners-le (getD (setsOf plan) t 0) 64)) ∙ e ∙ count-held plan (h .good) t 64
 
   answered : (t : ℕ) → fullnessAnswer a t ≡ model.fullnessOf (said plan) t
   unfolding fullnessAnswer model.fullnessOf

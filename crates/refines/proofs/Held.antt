@@ -44,8 +44,8 @@ module _ {plan a : List ℕ} {s : State} (h : Held plan a s) where
       {b : List ℕ} (x : State) → Rests a b → Same Steady a b → Shape (said plan) x → x .queues ≡ s .queues
       → counter b ≡ counterAfter (x .number)
       → ((t i : ℕ) → t < length (txOf plan) → i < 8 → byteAt b (payload t + i) ≡ getD (keptOf x t) i 0)
-      → ((t : ℕ) → t < length (txOf plan) → byteAt b (txTimer t + 1) ≡ getD (x .txTimers) t 0)
-      → ((r : ℕ) → r < length (rowsOf plan) → byteAt b (rxTimer r + 1) ≡ getD (x .rxTimers) r 0)
+      → ((t : ℕ) → t < length (txOf plan) → byteAt b (txTimer t) ≡ getD (x .txTimers) t 0)
+      → ((r : ℕ) → r < length (rowsOf plan) → byteAt b (rxTimer r) ≡ getD (x .rxTimers) r 0)
       → ((r : ℕ) → r < length (rowsOf plan) → byteAt b (long r) ≡ getD (x .longs) r 0) → Held plan b x
   held-rests x rests steady shape q number kept tx rx longs =
       record {

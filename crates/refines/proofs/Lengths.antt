@@ -39,7 +39,7 @@ opened-sized (Refused why number) plan a = refl
 
 accepted-sized : (a : List ℕ) (r : ℕ) (payload : List ℕ) → length (acceptedArea a r payload) ≡ length a
 unfolding restarted acceptedArea
-accepted-sized a r payload = sized-done (order a) (accepted r (padded payload)) (claims a r) _ .len ∙ length-set a (rxTimer r + 1) _
+accepted-sized a r payload = sized-done (order a) (accepted r (padded payload)) (claims a r) _ .len ∙ length-set a (rxTimer r) _
 
 received-sized : (a : List ℕ) (n id : ℕ) (payload : List ℕ) → length (receivedArea a n id payload) ≡ length a
 received-sized a n id payload =

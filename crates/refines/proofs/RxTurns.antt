@@ -11,7 +11,7 @@ use Rattle.clock.specs.Timer.{lowered}
 use Rattle.records.specs.Records.{records}
 use Rattle.plan.specs.Rows.{Source, copy, failure, widthOf, Claim, txOf, rowsOf, orderIn}
 use Rattle.facts.specs.Good.{Each}
-use Rattle.area.specs.Layout.{rxTimer, order, claims, spot}
+use Rattle.area.specs.Layout.{rxReload, rxTimer, order, claims, spot}
 use Rattle.area.specs.Claims.{expired, doneBy, sentBy, done, allDone}
 use Rattle.ticking.specs.Tick.{timed, longLowered, expiredArea, rxTick, rxTicks}
 use Rattle.tables.specs.Reads.{rowAt}
@@ -50,10 +50,10 @@ module _ {plan : List ℕ} (lawful : Lawful (said plan)) where
   -- ---- a turn
 
   held-timed : {a : List ℕ} {s : State} → Held plan a s → (r : ℕ) → r < length (rowsOf plan)
-      → Held plan (timed a (rxTimer r)) (rxLowered (said plan) s r)
+      → Held plan (timed a (rxReload r) (rxTimer r)) (rxLowered (said plan) s r)
   unfolding timed rxLowered
   held-timed {a} {s} h r l =
-      let e : lowered (byteAt a (rxTimer r)) (byteAt a (rxTimer r + 1)) ≡ lowered (rowIn (said plan) r .frame .reload) (getD (s .rxTimers) r 0) =
+      let e : lowered (byteAt a (rxReload r)) (byteAt a (rxTimer r)) ≡ lowered (rowIn (said plan) r .frame .reload) (getD (s .rxTimers) r 0) =
       rw (h .reads .rx r l .reload, h .shows .rxTimers r l) in
       rw e (write-rx h r _ l)
 

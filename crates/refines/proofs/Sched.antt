@@ -12,7 +12,7 @@ use Rattle.base.specs.Numbers.{byteAt}
 use Rattle.base.proofs.Picks.{picks, passes}
 use Rattle.records.specs.Records.{records}
 use Rattle.plan.specs.Rows.{txOf, nodesIn}
-use Rattle.area.specs.Layout.{queuesStart, txTimersStart, entriesStart, payloadsStart, queue, txTimer, waits, payload}
+use Rattle.area.specs.Layout.{queuesStart, txReloadsStart, entriesStart, payloadsStart, queue, txTimer, waits, payload}
 use Rattle.area.specs.Queue.{queueOf, scheduled}
 use Rattle.area.proofs.Frame.{same-scheduled}
 use Rattle.area.proofs.QueueLaws.{scheduled-waiting}
@@ -72,7 +72,7 @@ module _ {plan a : List ℕ} {s : State} (lawful : Lawful (said plan)) (h : Held
           absurd (h .ready .queues .queue n (below h n node) .marked (w .0) (w .1) (ap (λ u. byteAt a (waits u)) (w .2) ∙ e))
 
   -- a place past the queues' records and off the rings that scheduling leaves
-  leaves : (j : ℕ) → (queuesStart ≤ j → txTimersStart ≤ j) → (entriesStart ≤ j → payloadsStart ≤ j) → j ≢ waits t → j ≢ txTimer t + 1
+  leaves : (j : ℕ) → (queuesStart ≤ j → txReloadsStart ≤ j) → (entriesStart ≤ j → payloadsStart ≤ j) → j ≢ waits t → j ≢ txTimer t
       → byteAt (scheduled a t) j ≡ byteAt a j
   leaves j f g d e =
       same-scheduled {P = λ k. k ≡ j} (λ m k i x y p. omega (arith, f (omega arith))) (λ i x y p. omega (arith, g (omega arith))) a t
@@ -121,7 +121,7 @@ module _ {plan a : List ℕ} {s : State} (lawful : Lawful (said plan)) (h : Held
       }
     where
       timer : (u : ℕ) → u < length (txOf plan) → Dec (u ≡ t)
-          → byteAt (scheduled a t) (txTimer u + 1) ≡ getD (set (s .txTimers) t (txIn (said plan) t .reload)) u 0
+          → byteAt (scheduled a t) (txTimer u) ≡ getD (set (s .txTimers) t (txIn (said plan) t .reload)) u 0
       timer u m (yes e) =
           rw e
           (reloads (h .ready) t l z ∙ h .reads .tx t l .reload ∙ sym (getD-set-same (s .txTimers) t _ 0 (omega (arith, h .shape .txTimers))))

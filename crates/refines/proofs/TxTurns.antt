@@ -9,7 +9,7 @@ use Rattle.base.specs.Numbers.{byteAt}
 use Rattle.clock.specs.Counter.{counterAfter}
 use Rattle.clock.specs.Timer.{lowered}
 use Rattle.plan.specs.Rows.{txOf}
-use Rattle.area.specs.Layout.{txTimer}
+use Rattle.area.specs.Layout.{txReload, txTimer}
 use Rattle.ticking.specs.Tick.{timed, txTick, txTicks}
 use Rattle.refines.proofs.Prescalers.{tx-prescaler}
 use Rattle.refines.proofs.Prescalers.{mask-divides}
@@ -25,10 +25,10 @@ use Rattle.refines.proofs.Sched.{held-scheduled}
 
 module _ {plan : List ℕ} (lawful : Lawful (said plan)) where
   held-timed : {a : List ℕ} {s : State} → Held plan a s → (t : ℕ) → t < length (txOf plan)
-      → Held plan (timed a (txTimer t)) (txLowered (said plan) s t)
+      → Held plan (timed a (txReload t) (txTimer t)) (txLowered (said plan) s t)
   unfolding timed txLowered
   held-timed {a} {s} h t l =
-      let e : lowered (byteAt a (txTimer t)) (byteAt a (txTimer t + 1)) ≡ lowered (txIn (said plan) t .reload) (getD (s .txTimers) t 0) =
+      let e : lowered (byteAt a (txReload t)) (byteAt a (txTimer t)) ≡ lowered (txIn (said plan) t .reload) (getD (s .txTimers) t 0) =
       rw (h .reads .tx t l .reload, h .shows .txTimers t l) in
       rw e (write-tx h t _ l)
 

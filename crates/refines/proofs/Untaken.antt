@@ -6,8 +6,10 @@ use Prim.Native.Nat.{ℕ, _≤_, _<_}
 use native.Mathlib.Omega.{arith}
 use lib.Dec.{ltb}
 use borrow.Author.Tests.{ltb-true}
+use Rattle.base.specs.Numbers.{byteAt}
 use Rattle.base.proofs.Picks.{both, cases}
-use Rattle.area.specs.Layout.{queuesStart, txTimersStart, waitsStart, nodeCount}
+use Rattle.base.proofs.Ranges.{at-most-le}
+use Rattle.area.specs.Layout.{queuesStart, txReloadsStart, waitsStart, nodeCountByte, nodeCount}
 use Rattle.area.specs.Queue.{oldest, dequeued}
 use Rattle.area.proofs.Frame.{Same, same-refl, same-dequeued}
 use Rattle.taking.specs.Taken.{oldestArea, takenArea}
@@ -16,12 +18,12 @@ use Rattle.taking.specs.Taken.{oldestArea, takenArea}
 by-taken : (P : List ℕ → Type 0) (a : List ℕ) (n : ℕ) → (n < 16 → P (dequeued a n)) → P a → P (takenArea a n)
 unfolding takenArea oldestArea
 by-taken P a n gone stayed =
-    let known : ltb n (nodeCount a) ≡ true → n < 16 = λ e. omega (arith, ltb-true n (nodeCount a) e) in
+    let known : ltb n (nodeCount a) ≡ true → n < 16 = λ e. omega (arith, ltb-true n (nodeCount a) e, at-most-le 16 (byteAt a nodeCountByte)) in
     both P _ _ _ (cases P (ltb n (nodeCount a)) _ _ (λ e. both P _ _ _ stayed (gone (known e))) (λ e. stayed)) stayed
 
 -- no end of a queue, and no wait
 abbrev pub Untaken : ℕ → Type 0
-Untaken j = (queuesStart ≤ j → txTimersStart ≤ j) × (j < waitsStart)
+Untaken j = (queuesStart ≤ j → txReloadsStart ≤ j) × (j < waitsStart)
 
 pub untaken : (a : List ℕ) (n : ℕ) → Same Untaken a (takenArea a n)
 unfolding oldest

@@ -37,13 +37,13 @@ module _ {plan a : List ℕ} {s : State} (h : Held plan a s) where
   other : (i v j : ℕ) → j ≢ i → byteAt (set a i v) j ≡ byteAt a j
   other i v j d = getD-set-other a i j v 0 d
 
-  pub write-tx : (t v : ℕ) → t < length (txOf plan) → Held plan (set a (txTimer t + 1) v) (withTxTimer s t v)
+  pub write-tx : (t v : ℕ) → t < length (txOf plan) → Held plan (set a (txTimer t) v) (withTxTimer s t v)
   write-tx t v l =
       let few = tx-few t l in
       let w = h .shape in
       held-rests h (withTxTimer s t v)
-      (same-set (txTimer t + 1) v (λ p. p .timers (omega arith) (omega arith)) (same-refl a))
-      (same-set (txTimer t + 1) v (λ p. p .timers (omega arith) (omega arith) (omega arith)) (same-refl a))
+      (same-set (txTimer t) v (λ p. p .timers (omega arith) (omega arith)) (same-refl a))
+      (same-set (txTimer t) v (λ p. p .timers (omega arith) (omega arith)) (same-refl a))
       (record {
         kept = w .kept;
         payload = w .payload;
@@ -55,17 +55,17 @@ module _ {plan a : List ℕ} {s : State} (h : Held plan a s) where
       refl
       (other _ v counterByte (λ e. omega arith) ∙ h .shows .number)
       (λ u i m k. other _ v _ (λ e. omega arith) ∙ h .shows .kept u i m k)
-      (stored a (λ u. txTimer u + 1) (λ q u e. omega arith) (s .txTimers) _ (w .txTimers) (h .shows .txTimers) t v l (omega (arith, long-area h)))
+      (stored a txTimer (λ q u e. omega arith) (s .txTimers) _ (w .txTimers) (h .shows .txTimers) t v l (omega (arith, long-area h)))
       (λ r m. other _ v _ (λ e. omega (arith, rx-few r m)) ∙ h .shows .rxTimers r m)
       (λ r m. other _ v _ (λ e. omega (arith, rx-few r m)) ∙ h .shows .longs r m)
 
-  pub write-rx : (r v : ℕ) → r < length (rowsOf plan) → Held plan (set a (rxTimer r + 1) v) (withRxTimer s r v)
+  pub write-rx : (r v : ℕ) → r < length (rowsOf plan) → Held plan (set a (rxTimer r) v) (withRxTimer s r v)
   write-rx r v l =
       let few = rx-few r l in
       let w = h .shape in
       held-rests h (withRxTimer s r v)
-      (same-set (rxTimer r + 1) v (λ p. p .timers (omega arith) (omega arith)) (same-refl a))
-      (same-set (rxTimer r + 1) v (λ p. p .timers (omega arith) (omega arith) (omega arith)) (same-refl a))
+      (same-set (rxTimer r) v (λ p. p .timers (omega arith) (omega arith)) (same-refl a))
+      (same-set (rxTimer r) v (λ p. p .timers (omega arith) (omega arith)) (same-refl a))
       (record {
         kept = w .kept;
         payload = w .payload;
@@ -78,7 +78,7 @@ module _ {plan a : List ℕ} {s : State} (h : Held plan a s) where
       (other _ v counterByte (λ e. omega arith) ∙ h .shows .number)
       (λ u i m k. other _ v _ (λ e. omega arith) ∙ h .shows .kept u i m k)
       (λ u m. other _ v _ (λ e. omega (arith, tx-few u m)) ∙ h .shows .txTimers u m)
-      (stored a (λ u. rxTimer u + 1) (λ q u e. omega arith) (s .rxTimers) _ (w .rxTimers) (h .shows .rxTimers) r v l (omega (arith, long-area h)))
+      (stored a rxTimer (λ q u e. omega arith) (s .rxTimers) _ (w .rxTimers) (h .shows .rxTimers) r v l (omega (arith, long-area h)))
       (λ q m. other _ v _ (λ e. omega (arith, rx-few q m)) ∙ h .shows .longs q m)
 
   pub write-long : (r v : ℕ) → r < length (rowsOf plan) → Held plan (set a (long r) v) (withLong s r v)

@@ -23,8 +23,8 @@ use Rattle.model.specs.Rules.{OfBytes}
 pub record Shows (plan a : List ℕ) (s : State) : Type 0 where
   pub number : counter a ≡ counterAfter (s .number)
   pub kept : (t i : ℕ) → t < length (txOf plan) → i < 8 → byteAt a (payload t + i) ≡ getD (keptOf s t) i 0
-  pub txTimers : (t : ℕ) → t < length (txOf plan) → byteAt a (txTimer t + 1) ≡ getD (s .txTimers) t 0
-  pub rxTimers : (r : ℕ) → r < length (rowsOf plan) → byteAt a (rxTimer r + 1) ≡ getD (s .rxTimers) r 0
+  pub txTimers : (t : ℕ) → t < length (txOf plan) → byteAt a (txTimer t) ≡ getD (s .txTimers) t 0
+  pub rxTimers : (r : ℕ) → r < length (rowsOf plan) → byteAt a (rxTimer r) ≡ getD (s .rxTimers) r 0
   pub longs : (r : ℕ) → r < length (rowsOf plan) → byteAt a (long r) ≡ getD (s .longs) r 0
   pub queues : (n : ℕ) → n < nodesIn (records plan) → queueOf a n ≡ queueOn s n
 

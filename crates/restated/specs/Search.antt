@@ -1,48 +1,39 @@
 -- The search by its looks: "the middle row first, and the half that remains is searched by the same rule."
 use mathlib.Core.Path.{_≡_}
-use mathlib.Core.List.{List, _++_}
+use mathlib.Core.List.{List}
 use mathlib.Core.Logic.{_⊎_}
-use Prim.Native.Nat.{ℕ, suc, _+_, _*_, _^_, _≤_, _<_}
-use lib.ListN.{length}
+use Prim.Native.Nat.{ℕ, suc, _+_, _^_, _≤_, _<_}
 use Rattle.reception.specs.declared.lookup.Found.the-variants.{At, Nothing}
 use Rattle.area.specs.Layout.{keyAt, firstRow, rowCount}
-use Rattle.reception.specs.Lookup.{lookIn, rowsPart, lookedUp}
+use Rattle.reception.specs.Lookup.{lookIn, lookedUp}
 
--- rows of six bytes, of which a stand before the middle one and b after it: as many, or one more before it
-pub record Middle (rows low middle high : List ℕ) (a b : ℕ) : Type 0 where
-  pub split : rows ≡ low ++ (middle ++ high)
-  pub before : length low ≡ 6 * a
-  pub one : length middle ≡ 6
-  pub after : length high ≡ 6 * b
-  pub even : (a ≡ b) ⊎ (a ≡ b + 1)
+-- a row is the middle one if as many stand before it as after it, or one more
+abbrev pub Middle : ℕ → ℕ → Type 0
+Middle before after = (before ≡ after) ⊎ (before ≡ after + 1)
 
--- how n rows split at their middle one
-pub record Halves (rows : List ℕ) (n : ℕ) : Type 0 where
-  pub low : List ℕ
-  pub middle : List ℕ
-  pub high : List ℕ
+-- how many of n rows stand before their middle one, and how many after it
+pub record Halves (n : ℕ) : Type 0 where
   pub before : ℕ
   pub after : ℕ
   pub all : before + 1 + after ≡ n
-  pub split : Middle rows low middle high before after
+  pub middle : Middle before after
 
--- one look, at the middle row, and then the rows before it or those after it, with a look less
-pub record Looks (looks : ℕ) (rows low middle high : List ℕ) (a b base key : ℕ) : Type 0 where
-  pub hit : keyAt middle 0 ≡ key → lookIn (suc looks) rows (a + 1 + b) base key ≡ At (record { 0 = base + a })
-  pub below : key < keyAt middle 0 → lookIn (suc looks) rows (a + 1 + b) base key ≡ lookIn looks low a base key
-  pub above : keyAt middle 0 < key → lookIn (suc looks) rows (a + 1 + b) base key ≡ lookIn looks high b (base + a + 1) key
+-- one look, at the row behind b rows from row `first` on, and then those b rows or the c rows after it, with a look less
+pub record Looks (looks : ℕ) (area : List ℕ) (b c first key : ℕ) : Type 0 where
+  pub hit : keyAt area (first + b) ≡ key → lookIn (suc looks) area (b + 1 + c) first key ≡ At (record { 0 = first + b })
+  pub below : key < keyAt area (first + b) → lookIn (suc looks) area (b + 1 + c) first key ≡ lookIn looks area b first key
+  pub above : keyAt area (first + b) < key → lookIn (suc looks) area (b + 1 + c) first key ≡ lookIn looks area c (first + b + 1) key
 
 pub record SearchByLooks : Type 0 where
   -- with no look nothing is found, nor among no rows
-  pub none : (rows : List ℕ) (n base key : ℕ) → lookIn 0 rows n base key ≡ Nothing
-  pub empty : (looks : ℕ) (rows : List ℕ) (base key : ℕ) → lookIn looks rows 0 base key ≡ Nothing
+  pub none : (area : List ℕ) (n first key : ℕ) → lookIn 0 area n first key ≡ Nothing
+  pub empty : (looks : ℕ) (area : List ℕ) (first key : ℕ) → lookIn looks area 0 first key ≡ Nothing
   -- any other rows have a middle one
-  pub halves : (rows : List ℕ) (n : ℕ) → 0 < n → length rows ≡ 6 * n → Halves rows n
-  pub half :
-      (looks : ℕ) (rows low middle high : List ℕ) (a b base key : ℕ) → Middle rows low middle high a b → Looks looks rows low middle high a b base key
+  pub halves : (n : ℕ) → 0 < n → Halves n
+  pub half : (looks : ℕ) (area : List ℕ) (b c first key : ℕ) → Middle b c → Looks looks area b c first key
   -- k looks suffice for fewer than 2 ^ k rows: more find no more
-  pub suffice : (k m : ℕ) (rows : List ℕ) (n base key : ℕ) → n < 2 ^ k → k ≤ m → lookIn m rows n base key ≡ lookIn k rows n base key
+  pub suffice : (k m : ℕ) (area : List ℕ) (n first key : ℕ) → n < 2 ^ k → k ≤ m → lookIn m area n first key ≡ lookIn k area n first key
   -- among them as many looks as there are rows, and one
-  pub each : (k : ℕ) (rows : List ℕ) (n base key : ℕ) → n < 2 ^ k → lookIn (n + 1) rows n base key ≡ lookIn k rows n base key
-  -- so for a node's rows, which are at most 256, nine do
-  pub nine : (area : List ℕ) (node id : ℕ) → lookedUp area node id ≡ lookIn 9 (rowsPart area node) (rowCount area node) (firstRow area node) id
+  pub each : (k : ℕ) (area : List ℕ) (n first key : ℕ) → n < 2 ^ k → lookIn (n + 1) area n first key ≡ lookIn k area n first key
+  -- so for a node's rows, of which no area says that they are 512 or more, nine do
+  pub nine : (area : List ℕ) (node id : ℕ) → lookedUp area node id ≡ lookIn 9 area (rowCount area node) (firstRow area node) id

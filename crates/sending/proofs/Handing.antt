@@ -8,10 +8,12 @@ use native.Mathlib.Omega.{arith}
 use borrow.Author.Tests.{eq-eqb, ne-eqb, lt-ltb}
 use lib.Dec.{eqb}
 use lib.ListN.{length, take}
+use Rattle.base.specs.Numbers.{byteAt}
 use Rattle.base.proofs.Picks.{picks, passes, by-eqb}
+use Rattle.base.proofs.Ranges.{at-most-le}
 use Rattle.records.specs.Records.{records}
 use Rattle.plan.specs.Rows.{txOf, nodesIn}
-use Rattle.area.specs.Layout.{waits, nodeCount, inWidth}
+use Rattle.area.specs.Layout.{nodeCountByte, nodeCount, inWidth}
 use Rattle.area.specs.Queue.{endsOf, oldest, dequeued, queueOf}
 use Rattle.area.proofs.QueueLaws.{length-queueOf, queue-dequeued-other}
 use Rattle.answers.specs.declared.Taken.the-variants as taken
@@ -33,7 +35,7 @@ module _ {plan a : List ℕ} (reads : Reads plan a) (r : Ready plan a) (n : ℕ)
   known = omega (arith, reads .header .nodes)
 
   below : n < 16
-  below = omega (arith, known)
+  below = omega (arith, known, at-most-le 16 (byteAt a nodeCountByte))
 
   answers : takenAnswer a n ≡ oldestAnswer a n
   unfolding takenAnswer

@@ -6,7 +6,7 @@ use Prim.Native.Nat.{ℕ, _+_, _≤_, _<_}
 use native.Mathlib.Omega.{arith}
 use lib.ListN.{length-append, List·getD-append}
 use Rattle.base.specs.Numbers.{byteAt}
-use Rattle.area.specs.Layout.{counterByte, queuesStart, txTimersStart, waitsStart, payloadsStart, planStart, queue, waits}
+use Rattle.area.specs.Layout.{counterByte, queuesStart, txReloadsStart, waitsStart, payloadsStart, planStart, queue, waits}
 use Rattle.area.specs.Queue.{endsOf, queueOf}
 use Rattle.area.proofs.Frame.{Same, same-two, same-fewer}
 use Rattle.area.proofs.Kept.{Kept, kept-refl, kept-then}
@@ -61,9 +61,9 @@ module _ {plan a : List ℕ} where
 
 -- ---- changes beside the queues
 
--- all places but the timers and long counters, the payloads and masks, and the counter
+-- all places but the reload values, timers and long counters, the payloads and masks, and the counter
 pub record Resting (j : ℕ) : Type 0 where
-  pub timers : txTimersStart ≤ j → j < waitsStart → ⊥
+  pub timers : txReloadsStart ≤ j → j < waitsStart → ⊥
   pub payloads : payloadsStart ≤ j → j < planStart → ⊥
   pub count : j ≡ counterByte → ⊥
 
@@ -72,7 +72,7 @@ Rests a b = Same Resting a b
 
 -- where the oldest entry is stands in the records of the queues
 pub first-same :
-    {P : ℕ → Type 0} {a b : List ℕ} → ((j : ℕ) → queuesStart ≤ j → j < txTimersStart → P j) → Same P a b
+    {P : ℕ → Type 0} {a b : List ℕ} → ((j : ℕ) → queuesStart ≤ j → j < txReloadsStart → P j) → Same P a b
     → (n : ℕ) → n < 16 → endsOf b n .first ≡ endsOf a n .first
 unfolding endsOf
 first-same records s n h = same-two s (queue n + 4) (records _ (omega arith) (omega arith)) (records _ (omega arith) (omega arith))

@@ -12,7 +12,7 @@ use lib.Seq.{getD-append-seam, getD-set-same, getD-set-other}
 use Rattle.base.specs.Numbers.{byteAt}
 use Rattle.base.proofs.Picks.{picks}
 use Rattle.plan.specs.Rows.{txOf}
-use Rattle.area.specs.Layout.{txTimersStart, LongEnough, waits, txTimer, txFrame}
+use Rattle.area.specs.Layout.{txReloadsStart, LongEnough, waits, txReload, txTimer, txFrame}
 use Rattle.area.specs.Queue.{endsOf, added, queued, scheduled, queueOf}
 use Rattle.area.proofs.Frame.{same-refl, same-set, same-queued, same-scheduled}
 use Rattle.area.proofs.Kept.{Kept, kept-scheduled, room-kept}
@@ -64,7 +64,7 @@ module _ {plan a : List ℕ} (r : Ready plan a) (t : ℕ) (h : t < length (txOf 
     abbrev c : List ℕ
     c = set (queued a n t) (waits t) 1
 
-    parts : b ≡ set c (txTimer t + 1) (byteAt a (txTimer t))
+    parts : b ≡ set c (txTimer t) (byteAt a (txReload t))
     unfolding scheduled
     parts = rw (picks _ _ _ (eq-eqb _ _ free), here)
 
@@ -72,13 +72,13 @@ module _ {plan a : List ℕ} (r : Ready plan a) (t : ℕ) (h : t < length (txOf 
     long = omega (arith, holding .size, same-queued {P = λ j. ⊥} a n t (λ j x y p. p) (λ j x y p. p) .len)
 
     -- "its Tx timer takes its reload value"
-    pub reloads : byteAt b (txTimer t + 1) ≡ byteAt a (txTimer t)
-    reloads = rw parts (getD-set-same c (txTimer t + 1) (byteAt a (txTimer t)) 0 (simp length-set (omega (arith, long, few))))
+    pub reloads : byteAt b (txTimer t) ≡ byteAt a (txReload t)
+    reloads = rw parts (getD-set-same c (txTimer t) (byteAt a (txReload t)) 0 (simp length-set (omega (arith, long, few))))
 
     marked : byteAt b (waits t) ≡ 1
     marked =
         rw parts
-        (getD-set-other c (txTimer t + 1) (waits t) (byteAt a (txTimer t)) 0 (λ e. omega (arith, few))
+        (getD-set-other c (txTimer t) (waits t) (byteAt a (txReload t)) 0 (λ e. omega (arith, few))
         ∙ getD-set-same (queued a n t) (waits t) 1 0 (omega (arith, long, few)))
 
     mark-other : (u : ℕ) → u < 256 → u ≢ t → byteAt b (waits u) ≡ byteAt a (waits u)
@@ -94,8 +94,8 @@ module _ {plan a : List ℕ} (r : Ready plan a) (t : ℕ) (h : t < length (txOf 
     first : (m : ℕ) → m < 16 → endsOf b m .first ≡ endsOf a m .first
     unfolding added
     first m l =
-        let s = first-same {P = λ j. j < txTimersStart} (λ j x y. y)
-        (same-set (txTimer t + 1) _ (λ p. omega arith) (same-set (waits t) 1 (λ p. omega arith) (same-refl (queued a n t)))) m l in
+        let s = first-same {P = λ j. j < txReloadsStart} (λ j x y. y)
+        (same-set (txTimer t) _ (λ p. omega arith) (same-set (waits t) 1 (λ p. omega arith) (same-refl (queued a n t)))) m l in
         rw parts (s ∙ go (ℕ-discrete m n))
       where
         go : Dec (m ≡ n) → endsOf (queued a n t) m .first ≡ endsOf a m .first

@@ -12,8 +12,9 @@ use lib.ListN.{length, getD}
 use lib.Seq.{getD-set-same}
 use Rattle.base.specs.Numbers.{byteAt}
 use Rattle.base.proofs.Picks.{both, cases, by-eqb}
+use Rattle.base.proofs.Ranges.{at-most-le}
 use Rattle.plan.specs.Rows.{txOf}
-use Rattle.area.specs.Layout.{waits, nodeCount}
+use Rattle.area.specs.Layout.{nodeCountByte, waits, nodeCount}
 use Rattle.area.specs.Queue.{endsOf, removed, setEnds, oldest, dequeued, queueOf}
 use Rattle.area.proofs.Frame.{same-refl, same-setEnds, same-dequeued}
 use Rattle.area.proofs.Kept.{Kept, kept-dequeued}
@@ -115,6 +116,7 @@ queues-taken {plan} {a} n r =
     (cases (Queues plan) (ltb n (nodeCount a)) _ _
     (λ e.
     let l = ltb-true n (nodeCount a) e in
-    by-eqb (Queues plan) (endsOf a n .waiting) 0 _ _ (λ z. stay) (λ d. queues-dequeued r n (omega arith) (pos-of-ne-zero d)))
+    let h : n < 16 = omega (arith, at-most-le 16 (byteAt a nodeCountByte)) in
+    by-eqb (Queues plan) (endsOf a n .waiting) 0 _ _ (λ z. stay) (λ d. queues-dequeued r n h (pos-of-ne-zero d)))
     (λ e. stay))
     stay

@@ -1,3 +1,4 @@
+pub mod Verbatim
 pub mod RxSide
 pub mod RowWalk
 pub mod RowFacts

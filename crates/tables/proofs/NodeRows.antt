@@ -10,15 +10,15 @@ use borrow.Author.Tests.{eq-eqb, ne-eqb}
 use lib.Dec.{eqb}
 use lib.ListN.{length, length-set}
 use Rattle.base.specs.Pick.{pick}
-use Rattle.base.specs.Numbers.{twoAt, setTwo}
+use Rattle.base.specs.Numbers.{lowAt, setLow}
 use Rattle.base.proofs.Picks.{picks, passes, both}
+use Rattle.base.proofs.Ranges.{low-same}
 use Rattle.records.specs.declared.record.RxFrame.{RxFrame}
 use Rattle.plan.specs.Rows.{Row, rowOf, rowsOf}
 use Rattle.facts.specs.Good.{GoodPlan}
 use Rattle.area.specs.Layout.{rxCountBytes, headerEnd, queuesStart, LongEnough, node}
-use Rattle.area.proofs.Frame.{Same, same-refl, same-then, same-two, same-setTwo}
+use Rattle.area.proofs.Frame.{Same, same-refl, same-then, same-two, same-setLow}
 use Rattle.opening.specs.Opened.{nextRx, withRxTimer, withRow, withNodeRow, withRx, opened}
-use Rattle.opening.proofs.BlankLaws.{two-set}
 use Rattle.tables.proofs.RxSide.{leaves-rx-timer, leaves-row, RxClear, leaves-rx}
 use Rattle.tables.proofs.RowWalk.{Meets, blank-two, opened-walk}
 use Rattle.tables.proofs.RowFacts.{row-node}
@@ -27,33 +27,33 @@ use Rattle.tables.proofs.NodeSpans.{nodeAt, Among, among-other, among-f
 -- ---- one row more in the area
 
 abbrev first : List ℕ → ℕ → ℕ
-first a n = twoAt a (node n)
+first a n = lowAt a (node n)
 
 abbrev count : List ℕ → ℕ → ℕ
-count a n = twoAt a (node n + 2)
+count a n = lowAt a (node n + 2)
 
 module _ (n r : ℕ) (a : List ℕ) (h : n < 16) (l : LongEnough a) where
   -- the area before the count is stored
   abbrev begun : List ℕ
-  begun = pick (eqb (count a n) 0) (setTwo a (node n) r) a
+  begun = pick (eqb (count a n) 0) (setLow a (node n) r) a
 
   more-count : count a n < 65535 → count (withNodeRow n r a) n ≡ count a n + 1
   unfolding withNodeRow
   more-count m =
       let long : LongEnough begun = both (λ (b : List ℕ). LongEnough b) (eqb (count a n) 0) _ _ (simp length-set l) l in
-      two-set begun (node n + 2) (count a n + 1) (omega arith) (omega arith)
+      low-same begun (node n + 2) (count a n + 1) (omega arith) (omega arith)
 
   first-begun : first (withNodeRow n r a) n ≡ first begun n
   unfolding withNodeRow
   first-begun =
-      let s : Same (λ j. j < node n + 2) begun (withNodeRow n r a) = same-setTwo _ _ (omega arith) (omega arith) (same-refl begun) in
+      let s : Same (λ j. j < node n + 2) begun (withNodeRow n r a) = same-setLow _ _ (omega arith) (omega arith) (same-refl begun) in
       same-two s (node n) (omega arith) (omega arith)
 
   first-put : count a n ≡ 0 → r < 65536 → first (withNodeRow n r a) n ≡ r
-  first-put z small = first-begun ∙ rw (picks _ (setTwo a (node n) r) a (eq-eqb (count a n) 0 z)) (two-set a (node n) r (omega arith) small)
+  first-put z small = first-begun ∙ rw (picks _ (setLow a (node n) r) a (eq-eqb (count a n) 0 z)) (low-same a (node n) r (omega arith) small)
 
   first-kept : 0 < count a n → first (withNodeRow n r a) n ≡ first a n
-  first-kept some = first-begun ∙ rw (passes _ (setTwo a (node n) r) a (ne-eqb (count a n) 0 (omega arith)))
+  first-kept some = first-begun ∙ rw (passes _ (setLow a (node n) r) a (ne-eqb (count a n) 0 (omega arith)))
 
 -- what is read of node n, where its four bytes are the same
 module _ {P : ℕ → Type 0} {a b : List ℕ} (s : Same P a b) (n : ℕ) (p : (j : ℕ) → node n ≤ j → j < node n + 4 → P j) where
@@ -76,8 +76,8 @@ module _ (at : ℕ) (x : RxFrame) (a : List ℕ) where
   same-rowed : Same InNodes a rowed
   same-rowed =
       same-then
-      (leaves-rx-timer _ x a (omega arith) (omega arith) (omega arith))
-      (leaves-row _ at x _ (omega arith))
+      (leaves-rx-timer _ x a (omega arith) (omega arith) (omega arith) (omega arith))
+      (leaves-row _ at x _ (omega arith) (omega arith))
 
   module _ (n : ℕ) (is : x .node % 16 ≡ n) (l : LongEnough a) where
     abbrev before-first : first rowed n ≡ first a n
@@ -91,7 +91,7 @@ module _ (at : ℕ) (x : RxFrame) (a : List ℕ) where
 
     after-node : Same InNodes (withNodeRow n (nextRx a) rowed) (withRx at x a)
     unfolding withRx
-    after-node = rw is (same-setTwo rxCountBytes (nextRx a + 1) (omega arith) (omega arith) (same-refl (withNodeRow n (nextRx a) rowed)))
+    after-node = rw is (same-setLow rxCountBytes (nextRx a + 1) (omega arith) (omega arith) (same-refl (withNodeRow n (nextRx a) rowed)))
 
     own-count : count a n < 65535 → count (withRx at x a) n ≡ count a n + 1
     own-count m =
@@ -152,9 +152,9 @@ module _ (plan : List ℕ) (good : GoodPlan plan) where
           (eq-or-lt-of-le zero-le)
 
   pub opened-among : (a : List ℕ) → LongEnough a → (n : ℕ) → n < 16
-      → Among plan n (length (rowsOf plan)) (twoAt (opened plan a) (node n)) (twoAt (opened plan a) (node n + 2))
+      → Among plan n (length (rowsOf plan)) (lowAt (opened plan a) (node n)) (lowAt (opened plan a) (node n + 2))
   opened-among a room =
-      opened-walk plan (good .counts .rx) (AllAmong plan)
+      opened-walk plan good (AllAmong plan)
       (λ k b c h s all n l. among-kept plan n k s (omega arith) (all n l))
       among-more a room
       (λ n l. rw (blank-two plan a room (node n) (omega arith) (omega arith), blank-two plan a room (node n + 2) (omega arith) (omega arith))

@@ -10,8 +10,9 @@ use native.Mathlib.Omega.{arith}
 use lib.Dec.{eqb}
 use lib.ListN.{length}
 use Rattle.base.specs.Pick.{pick}
-use Rattle.base.specs.Numbers.{twoAt, setTwo}
+use Rattle.base.specs.Numbers.{lowAt, setLow}
 use Rattle.base.proofs.Picks.{by-eqb}
+use Rattle.base.proofs.Ranges.{low-same}
 use Rattle.records.specs.declared.record.TxFrame.{TxFrame}
 use Rattle.records.specs.declared.record.Record.{Record}
 use Rattle.records.specs.Kinds.{formOf, lengthOf, kindOf}
@@ -22,9 +23,8 @@ use Rattle.plan.proofs.TestLaws.{tx-ranges}
 use Rattle.facts.specs.Good.{Each}
 use Rattle.area.specs.Layout.{txCountBytes, LongEnough, queue, txPlace}
 use Rattle.area.specs.Queue.{endsOf}
-use Rattle.area.proofs.Frame.{Same, same-refl, same-setTwo, same-two}
+use Rattle.area.proofs.Frame.{Same, same-refl, same-setLow, same-two}
 use Rattle.opening.specs.Opened.{nextTx, withTxTimer, withPayload, withFrame, withTx, withRecord, withRecords, ringsBefore, withRings}
-use Rattle.opening.proofs.BlankLaws.{two-set}
 use Rattle.tables.specs.Reads.{framesOn}
 use Rattle.tables.proofs.Stored.{rows-at}
 use Rattle.tables.proofs.Spared.{same-own, same-tx, tx-length, along, same-rings}
@@ -36,33 +36,33 @@ abbrev pub Room : ℕ → ℕ → Type 0
 Room n j = (queue n + 2 ≤ j) × (j < queue n + 4)
 
 module _ (n : ℕ) (h : n < 16) where
-  one-more : (at : ℕ) (x : TxFrame) (a : List ℕ) → LongEnough a → twoAt a (queue n + 2) + 1 < 65536 → x .node % 16 ≡ n
-      → twoAt (withTx at x a) (queue n + 2) ≡ twoAt a (queue n + 2) + 1
+  one-more : (at : ℕ) (x : TxFrame) (a : List ℕ) → LongEnough a → lowAt a (queue n + 2) + 1 < 65536 → x .node % 16 ≡ n
+      → lowAt (withTx at x a) (queue n + 2) ≡ lowAt a (queue n + 2) + 1
   unfolding withTx withFrame
   one-more at x a long most is =
-      let c = withPayload (nextTx a) (x .payload) (withTxTimer (nextTx a) x (setTwo a (txPlace (nextTx a)) at)) in
+      let c = withPayload (nextTx a) (x .payload) (withTxTimer (nextTx a) x (setLow a (txPlace (nextTx a)) at)) in
       let s : Same (Room n) a c = same-own (nextTx a) at x a (omega arith) in
       let e = same-two s (queue n + 2) (omega arith) (omega arith) in
       rw is
-      (same-two (same-setTwo {P = Room n} txCountBytes _ (omega arith) (omega arith) (same-refl (withFrame n c))) (queue n + 2) (omega arith) (omega arith)
-      ∙ two-set c (queue n + 2) (twoAt c (queue n + 2) + 1) (omega arith) (omega arith) ∙ omega arith)
+      (same-two (same-setLow {P = Room n} txCountBytes _ (omega arith) (omega arith) (same-refl (withFrame n c))) (queue n + 2) (omega arith) (omega arith)
+      ∙ low-same c (queue n + 2) (lowAt c (queue n + 2) + 1) (omega arith) (omega arith) ∙ omega arith)
 
-  no-more : (at : ℕ) (x : TxFrame) (a : List ℕ) → (x .node % 16 ≡ n → ⊥) → twoAt (withTx at x a) (queue n + 2) ≡ twoAt a (queue n + 2)
+  no-more : (at : ℕ) (x : TxFrame) (a : List ℕ) → (x .node % 16 ≡ n → ⊥) → lowAt (withTx at x a) (queue n + 2) ≡ lowAt a (queue n + 2)
   no-more at x a differs =
       let s : Same (Room n) a (withTx at x a) = same-tx at x a (omega arith) (omega arith) (omega arith) in
       same-two s (queue n + 2) (omega arith) (omega arith)
 
-  room-tx : (at : ℕ) (x : TxFrame) (a : List ℕ) → LongEnough a → x .node < 16 → twoAt a (queue n + 2) + 1 < 65536
-      → twoAt (withTx at x a) (queue n + 2) ≡ twoAt a (queue n + 2) + pick (eqb (x .node) n) 1 0
+  room-tx : (at : ℕ) (x : TxFrame) (a : List ℕ) → LongEnough a → x .node < 16 → lowAt a (queue n + 2) + 1 < 65536
+      → lowAt (withTx at x a) (queue n + 2) ≡ lowAt a (queue n + 2) + pick (eqb (x .node) n) 1 0
   room-tx at x a long node most =
-      by-eqb (λ (v : ℕ). twoAt (withTx at x a) (queue n + 2) ≡ twoAt a (queue n + 2) + v) (x .node) n 1 0
+      by-eqb (λ (v : ℕ). lowAt (withTx at x a) (queue n + 2) ≡ lowAt a (queue n + 2) + v) (x .node) n 1 0
       (λ e. one-more at x a long most (omega arith)) (λ d. no-more at x a (λ e. d (omega arith)) ∙ omega arith)
 
   module _ (m : ℕ) (few : m ≤ 16) where
     abbrev RoomBy : ℕ → List Record → List ℕ → Type 0
     RoomBy at rs a =
-        Each (λ r. inRange m r ≡ true) rs → LongEnough a → twoAt a (queue n + 2) + framesOn n (txFrames rs) < 65535
-        → twoAt (withRecords at rs a) (queue n + 2) ≡ twoAt a (queue n + 2) + framesOn n (txFrames rs)
+        Each (λ r. inRange m r ≡ true) rs → LongEnough a → lowAt a (queue n + 2) + framesOn n (txFrames rs) < 65535
+        → lowAt (withRecords at rs a) (queue n + 2) ≡ lowAt a (queue n + 2) + framesOn n (txFrames rs)
 
     pub room-records : (at : ℕ) (rs : List Record) (a : List ℕ) → RoomBy at rs a
     unfolding withRecords withRecord formOf lengthOf kindOf sizeOf pick txFrames framesOn Each inRange
@@ -124,13 +124,13 @@ frames-le n xs = omega (arith, before-le (suc n) xs)
 
 -- ---- the rings that are made of an area b, in which the frames of each node are counted
 
-module _ (xs : List TxFrame) (most : length xs ≤ 256) (b : List ℕ) (frames : (n : ℕ) → n < 16 → twoAt b (queue n + 2) ≡ framesOn n xs) where
+module _ (xs : List TxFrame) (most : length xs ≤ 256) (b : List ℕ) (frames : (n : ℕ) → n < 16 → lowAt b (queue n + 2) ≡ framesOn n xs) where
   rings-before : (n : ℕ) → n ≤ 16 → ringsBefore b n ≡ before n xs + n
   unfolding ringsBefore before
   rings-before zero h = omega arith
   rings-before (suc n) h = omega (arith, rings-before n (omega arith), frames n (omega arith), frames-le n xs)
 
-  pub ring-start : LongEnough b → (n : ℕ) → n < 16 → twoAt (withRings 16 b) (queue n) ≡ ringsBefore b n
+  pub ring-start : LongEnough b → (n : ℕ) → n < 16 → lowAt (withRings 16 b) (queue n) ≡ ringsBefore b n
   unfolding withRings
   ring-start long n h =
       rows-at (λ k. withRings k b) queue (ringsBefore b) (λ k. refl) (omega arith) 16

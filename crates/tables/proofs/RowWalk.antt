@@ -1,29 +1,27 @@
 -- An induction over an opening's Rx frames: what each of them adds to, and no other record changes, holds of the opened area.
 use mathlib.Core.Path.{_≡_, refl, sym, ap, _∙_}
-use mathlib.Core.Logic.{dite}
 use mathlib.Core.List.{List, [], _∷_}
 use Prim.Native.Nat.{ℕ, suc, _+_, _<_, _≤_}
-use native.Mathlib.Nat.{lt-of-not-le}
-use native.Mathlib.Decide.{decLe}
 use native.Mathlib.Omega.{arith}
 use lib.ListN.{length, drop, length-drop}
 use lib.Seq.{drop-cons}
-use Rattle.base.specs.Numbers.{byteAt, twoAt}
+use Rattle.base.specs.Numbers.{byteAt, lowAt}
 use Rattle.records.specs.declared.record.RxFrame.{RxFrame}
 use Rattle.records.specs.declared.record.Record.{Record}
 use Rattle.records.specs.declared.record.Record.the-variants.{Rx}
 use Rattle.base.specs.Pick.{pick}
 use Rattle.records.specs.Kinds.{rxBytes, formOf, lengthOf, kindOf}
 use Rattle.records.specs.Records.{recordAt, sizeOf, recordsAt, records}
-use Rattle.records.proofs.RecordLaws.{records-end, records-step}
 use Rattle.plan.specs.Check.{setsOf}
 use Rattle.plan.specs.Rows.{rowOf, rowsFrom, rowsOf, noRow}
+use Rattle.facts.specs.Good.{GoodPlan}
 use Rattle.area.specs.Layout.{nodeCountByte, rxCountBytes, planStart, LongEnough}
 use Rattle.area.proofs.Frame.{Same, same-two}
 use Rattle.opening.specs.Opened.{blank, nextRx, withRx, withRecord, withRecords, opened}
 use Rattle.opening.proofs.BlankLaws.{blank-length, blank-zero}
 use Rattle.opening.proofs.Counted.{counts}
 use Rattle.tables.specs.Reads.{rowAt}
+use Rattle.tables.proofs.Verbatim.{records-head, Sound, sound-good, sound-rest}
 use Rattle.tables.proofs.RxSide.{rx-length, RxSide, leaves-last, Kind, frame, other, kind}
 
 -- Rx frame number k, met at a place of the plan when the area is a
@@ -32,30 +30,18 @@ pub record Meets (plan : List ℕ) (k at : ℕ) (x : RxFrame) (a : List ℕ) : T
   pub reads : recordAt plan at ≡ Rx x
   pub exists : k < length (rowsOf plan)
   pub row : rowAt plan k ≡ rowOf k x (recordsAt plan (at + rxBytes))
+  pub sound : Sound (Rx x ∷ recordsAt plan (at + rxBytes))
   pub next : nextRx a ≡ k
   pub size : LongEnough a
 
 -- the records from a place on are left, of which the first Rx frame has number k
 record Left (plan : List ℕ) (rs : List Record) (at k : ℕ) (a : List ℕ) : Type 0 where
   reads : recordsAt plan at ≡ rs
+  sound : Sound rs
   rows : rowsFrom k rs ≡ drop k (rowsOf plan)
   most : k ≤ length (rowsOf plan)
-  count : twoAt a rxCountBytes ≡ k
+  count : lowAt a rxCountBytes ≡ k
   size : LongEnough a
-
--- the record at a place is the first of those from there on
-module _ (plan : List ℕ) (at : ℕ) (r : Record) (rs : List Record) (is : recordsAt plan at ≡ r ∷ rs) where
-  before : at < length plan
-  before =
-      dite (decLe (length plan) at)
-      (λ l. let e = records-end plan at l in let z : _≡_ {A = ℕ} 0 1 = cc in absurd (omega arith))
-      lt-of-not-le
-
-  first : recordAt plan at ≡ r
-  first = let e = records-step plan at before in cc
-
-  rest : recordsAt plan (at + sizeOf r) ≡ rs
-  rest = let e = records-step plan at before in rw first at (let f : recordsAt plan (at + sizeOf (recordAt plan at)) ≡ rs = cc in f)
 
 -- ---- one record less
 
@@ -65,7 +51,8 @@ module _ (plan : List ℕ) (rs : List Record) (at k : ℕ) (a : List ℕ) where
       → Left plan rs (at + sizeOf r) k b
   left-other r b none s l =
       record {
-        reads = rest plan at r rs (l .reads);
+        reads = records-head plan at r rs (l .reads) .2;
+        sound = sound-rest r rs (l .sound);
         rows = sym none ∙ l .rows;
         most = l .most;
         count = same-two s rxCountBytes (omega arith) (omega arith) ∙ l .count;
@@ -85,11 +72,13 @@ module _ (plan : List ℕ) (rs : List Record) (at k : ℕ) (a : List ℕ) where
     unfolding formOf lengthOf kindOf sizeOf pick
     meets =
         let e = here-rows in
+        let h = records-head plan at (Rx x) rs (l .reads) in
         record {
-          here = before plan at (Rx x) rs (l .reads);
-          reads = first plan at (Rx x) rs (l .reads);
+          here = h .0;
+          reads = h .1;
           exists = more-rows;
-          row = rw (rest plan at (Rx x) rs (l .reads)) (cc);
+          row = rw (h .2) (cc);
+          sound = rw (h .2) (l .sound);
           next = rw (l .count) (omega (arith, more-rows));
           size = l .size;
         }
@@ -100,7 +89,8 @@ module _ (plan : List ℕ) (rs : List Record) (at k : ℕ) (a : List ℕ) where
         let e = here-rows in
         let c = counts at (Rx x ∷ []) a (omega (arith, l .size)) .rx 0 (omega (arith, l .count, more-rows)) in
         record {
-          reads = rest plan at (Rx x) rs (l .reads);
+          reads = records-head plan at (Rx x) rs (l .reads) .2;
+          sound = sound-rest (Rx x) rs (l .sound);
           rows = cc;
           most = more-rows;
           count = c ∙ omega (arith, l .count);
@@ -108,7 +98,7 @@ module _ (plan : List ℕ) (rs : List Record) (at k : ℕ) (a : List ℕ) where
         }
 
 -- the counts and the tables of a blank area
-pub blank-two : (plan a : List ℕ) → LongEnough a → (j : ℕ) → nodeCountByte ≤ j → j + 1 < planStart → twoAt (blank plan a) j ≡ 0
+pub blank-two : (plan a : List ℕ) → LongEnough a → (j : ℕ) → nodeCountByte ≤ j → j + 1 < planStart → lowAt (blank plan a) j ≡ 0
 blank-two plan a room j l h =
     let byte : (i : ℕ) → nodeCountByte ≤ i → i < planStart → byteAt (blank plan a) i ≡ 0 =
     λ i lo hi. blank-zero plan a room i hi (omega arith) (omega arith) (omega arith) (omega arith) in
@@ -123,7 +113,7 @@ record After (plan : List ℕ) (Q : ℕ → List ℕ → Type 0) (rs : List Reco
   holds : Q number a
 
 module _
-    (plan : List ℕ) (few : length (rowsOf plan) ≤ 256) (Q : ℕ → List ℕ → Type 0)
+    (plan : List ℕ) (good : GoodPlan plan) (Q : ℕ → List ℕ → Type 0)
     (kept : (k : ℕ) (a b : List ℕ) → k ≤ length (rowsOf plan) → Same RxSide a b → Q k a → Q k b)
     (more : (k at : ℕ) (x : RxFrame) (a : List ℕ) → Meets plan k at x a → Q k a → Q (suc k) (withRx at x a))
   where
@@ -133,6 +123,7 @@ module _
     unfolding withRecord formOf lengthOf kindOf sizeOf pick
     step r rs at k a l q (frame x e) =
         let m : Left plan (Rx x ∷ rs) at k a = rw e at l in
+        let few = good .counts .rx in
         rw e (record { number = suc k; left = left-frame plan rs at k a x few m; holds = more k at x a (meets plan rs at k a x few m) q })
     step r rs at k a l q (other none s) =
         record { number = k; left = left-other plan rs at k a r _ (none k rs) (s a) l; holds = kept k a _ (l .most) (s a) q }
@@ -148,6 +139,7 @@ module _
         let l : Left plan (recordsAt plan 0) 0 0 (blank plan a) =
         record {
           reads = refl;
+          sound = sound-good plan good;
           rows = refl;
           most = omega arith;
           count = blank-two plan a room rxCountBytes (omega arith) (omega arith);

@@ -5,24 +5,24 @@ use Prim.Native.Nat.{ℕ, _+_, _/_, _%_, _<_, _≤_}
 use native.Mathlib.Omega.{arith}
 use lib.ListN.{length, set, length-set}
 use lib.Seq.{getD-set-same, getD-set-other}
-use Rattle.base.specs.Numbers.{byteAt, twoAt, setTwo}
+use Rattle.base.specs.Numbers.{byteAt, lowAt, setLow}
+use Rattle.base.proofs.Ranges.{low-same}
 use Rattle.clock.specs.Counter.{maskOf}
 use Rattle.records.specs.declared.record.RxFrame.{RxFrame}
-use Rattle.area.specs.Layout.{queuesStart, rxTimersStart, rowsStart, rxMasksStart, LongEnough, rxTimer, long, row, rxMask}
-use Rattle.area.proofs.Frame.{Same, same-refl, same-then, same-two, same-setTwo}
+use Rattle.area.specs.Layout.{queuesStart, rxReloadsStart, keysStart, rxMasksStart, LongEnough, rxReload, rxTimer, long, key, rxPlace, rxMask}
+use Rattle.area.proofs.Frame.{Same, same-refl, same-then, same-two, same-setLow}
 use Rattle.opening.specs.Opened.{nextRx, withRxTimer, withRow, withRx}
-use Rattle.opening.proofs.BlankLaws.{two-set}
 use Rattle.tables.proofs.RxSide.{Clear, put-two, leaves-row, leaves-node-row}
 
 -- all that stands for Rx frame r, whose record x is at a place of the plan
 pub record Put (a : List ℕ) (r at : ℕ) (x : RxFrame) : Type 0 where
-  pub reload : byteAt a (rxTimer r) ≡ x .reload
-  pub initial : byteAt a (rxTimer r + 1) ≡ x .initial
+  pub reload : byteAt a (rxReload r) ≡ x .reload
+  pub initial : byteAt a (rxTimer r) ≡ x .initial
   pub mask : byteAt a (rxMask r) ≡ maskOf (x .prescaler)
   pub long : byteAt a (long r) ≡ x .long
-  pub high : twoAt a (row r) ≡ x .id / 65536
-  pub low : twoAt a (row r + 2) ≡ x .id % 65536
-  pub place : twoAt a (row r + 4) ≡ at
+  pub low : lowAt a (key r) ≡ x .id % 65536
+  pub high : lowAt a (key r + 2) ≡ x .id / 65536
+  pub place : lowAt a (rxPlace r) ≡ at
 
 -- a byte that was stored, and is not stored over
 record Byte (a : List ℕ) (j v : ℕ) : Type 0 where
@@ -37,10 +37,10 @@ past {a} {j} i v d b = record { is = getD-set-other a i j v 0 d ∙ b .is }
 module _ (r : ℕ) (x : RxFrame) (a : List ℕ) (h : r < 256) (l : LongEnough a) where
   -- the area before each further store
   abbrev one : List ℕ
-  one = set a (rxTimer r) (x .reload)
+  one = set a (rxReload r) (x .reload)
 
   abbrev two : List ℕ
-  two = set one (rxTimer r + 1) (x .initial)
+  two = set one (rxTimer r) (x .initial)
 
   abbrev three : List ℕ
   three = set two (rxMask r) (maskOf (x .prescaler))
@@ -49,16 +49,16 @@ module _ (r : ℕ) (x : RxFrame) (a : List ℕ) (h : r < 256) (l : LongEnough a)
   unfolding withRxTimer
   timer-size = simp length-set l
 
-  timer-reload : Byte (withRxTimer r x a) (rxTimer r) (x .reload)
+  timer-reload : Byte (withRxTimer r x a) (rxReload r) (x .reload)
   unfolding withRxTimer
   timer-reload =
       past (long r) _ (omega arith) (past (rxMask r) _ (omega arith)
-      (past (rxTimer r + 1) _ (omega arith) (here a (rxTimer r) _ (omega arith))))
+      (past (rxTimer r) _ (omega arith) (here a (rxReload r) _ (omega arith))))
 
-  timer-initial : Byte (withRxTimer r x a) (rxTimer r + 1) (x .initial)
+  timer-initial : Byte (withRxTimer r x a) (rxTimer r) (x .initial)
   unfolding withRxTimer
   timer-initial =
-      past (long r) _ (omega arith) (past (rxMask r) _ (omega arith) (here one (rxTimer r + 1) _ (simp length-set (omega arith))))
+      past (long r) _ (omega arith) (past (rxMask r) _ (omega arith) (here one (rxTimer r) _ (simp length-set (omega arith))))
 
   timer-mask : Byte (withRxTimer r x a) (rxMask r) (maskOf (x .prescaler))
   unfolding withRxTimer
@@ -69,26 +69,26 @@ module _ (r : ℕ) (x : RxFrame) (a : List ℕ) (h : r < 256) (l : LongEnough a)
   timer-long = here three (long r) _ (simp length-set (omega arith))
 
   module _ (at : ℕ) where
-    row-high : x .id < 4294967296 → twoAt (withRow r at x a) (row r) ≡ x .id / 65536
-    unfolding withRow
-    row-high k =
-        let s : Same (λ j. j < row r + 2) (setTwo a (row r) (x .id / 65536)) (withRow r at x a) =
-        same-setTwo _ _ (omega arith) (omega arith) (same-setTwo _ _ (omega arith) (omega arith) (same-refl _)) in
-        same-two s (row r) (omega arith) (omega arith) ∙ two-set a (row r) (x .id / 65536) (omega arith) (omega arith)
-
-    row-low : twoAt (withRow r at x a) (row r + 2) ≡ x .id % 65536
+    row-low : lowAt (withRow r at x a) (key r) ≡ x .id % 65536
     unfolding withRow
     row-low =
-        let b = setTwo a (row r) (x .id / 65536) in
-        let s : Same (λ j. j < row r + 4) (setTwo b (row r + 2) (x .id % 65536)) (withRow r at x a) =
-        same-setTwo _ _ (omega arith) (omega arith) (same-refl _) in
-        same-two s (row r + 2) (omega arith) (omega arith) ∙ two-set b (row r + 2) (x .id % 65536) (simp length-set (omega arith)) (omega arith)
+        let s : Same (λ j. j < key r + 2) (setLow a (key r) (x .id % 65536)) (withRow r at x a) =
+        same-setLow _ _ (omega arith) (omega arith) (same-setLow _ _ (omega arith) (omega arith) (same-refl _)) in
+        same-two s (key r) (omega arith) (omega arith) ∙ low-same a (key r) (x .id % 65536) (omega arith) (omega arith)
 
-    row-place : at < 65536 → twoAt (withRow r at x a) (row r + 4) ≡ at
+    row-high : x .id < 4294967296 → lowAt (withRow r at x a) (key r + 2) ≡ x .id / 65536
+    unfolding withRow
+    row-high k =
+        let b = setLow a (key r) (x .id % 65536) in
+        let s : Same (λ j. j < key r + 4) (setLow b (key r + 2) (x .id / 65536)) (withRow r at x a) =
+        same-setLow _ _ (omega arith) (omega arith) (same-refl _) in
+        same-two s (key r + 2) (omega arith) (omega arith) ∙ low-same b (key r + 2) (x .id / 65536) (simp length-set (omega arith)) (omega arith)
+
+    row-place : at < 65536 → lowAt (withRow r at x a) (rxPlace r) ≡ at
     unfolding withRow
     row-place k =
-        let b = setTwo (setTwo a (row r) (x .id / 65536)) (row r + 2) (x .id % 65536) in
-        two-set b (row r + 4) at (simp length-set (omega arith)) k
+        let b = setLow (setLow a (key r) (x .id % 65536)) (key r + 2) (x .id / 65536) in
+        low-same b (rxPlace r) at (simp length-set (omega arith)) k
 
 -- after the row come the node and the count
 after-row :
@@ -103,15 +103,16 @@ put-one at x a l small here′ =
     let h : r < 256 = omega arith in
     let t = withRxTimer r x a in
     let m : LongEnough t = timer-size r x a h l in
-    let s : Same (λ j. (rxTimersStart ≤ j) × (rowsStart ≤ j → rxMasksStart ≤ j)) t (withRx at x a) =
-    same-then (leaves-row r at x t (λ j lo hi p. omega (arith, p .1 (omega arith)))) (after-row at x a (omega arith)) in
-    let w : Same (λ j. rowsStart ≤ j) (withRow r at x t) (withRx at x a) = after-row at x a (omega arith) in
+    let s : Same (λ j. (rxReloadsStart ≤ j) × (keysStart ≤ j → rxMasksStart ≤ j)) t (withRx at x a) =
+    same-then (leaves-row r at x t (λ j lo hi p. omega (arith, p .1 (omega arith))) (λ j lo hi p. omega (arith, p .1 (omega arith))))
+    (after-row at x a (omega arith)) in
+    let w : Same (λ j. keysStart ≤ j) (withRow r at x t) (withRx at x a) = after-row at x a (omega arith) in
     record {
-      reload = s .at (rxTimer r) (omega arith) ∙ timer-reload r x a h l .is;
-      initial = s .at (rxTimer r + 1) (omega arith) ∙ timer-initial r x a h l .is;
+      reload = s .at (rxReload r) (omega arith) ∙ timer-reload r x a h l .is;
+      initial = s .at (rxTimer r) (omega arith) ∙ timer-initial r x a h l .is;
       mask = s .at (rxMask r) (omega arith) ∙ timer-mask r x a h l .is;
       long = s .at (long r) (omega arith) ∙ timer-long r x a h l .is;
-      high = same-two w (row r) (omega arith) (omega arith) ∙ row-high r x t h m at (omega arith);
-      low = same-two w (row r + 2) (omega arith) (omega arith) ∙ row-low r x t h m at;
-      place = same-two w (row r + 4) (omega arith) (omega arith) ∙ row-place r x t h m at here′;
+      low = same-two w (key r) (omega arith) (omega arith) ∙ row-low r x t h m at;
+      high = same-two w (key r + 2) (omega arith) (omega arith) ∙ row-high r x t h m at (omega arith);
+      place = same-two w (rxPlace r) (omega arith) (omega arith) ∙ row-place r x t h m at here′;
     }

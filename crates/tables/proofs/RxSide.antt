@@ -4,16 +4,16 @@ use mathlib.Core.List.{List, _∷_}
 use Prim.Native.Nat.{ℕ, zero, suc, _+_, _%_, _<_, _≤_}
 use native.Mathlib.Omega.{arith}
 use lib.ListN.{length, set}
-use Rattle.base.specs.Numbers.{setTwo}
+use Rattle.base.specs.Numbers.{setLow}
 use Rattle.records.specs.declared.record.Eight.{Eight}
 use Rattle.records.specs.declared.record.TxFrame.{TxFrame}
 use Rattle.records.specs.declared.record.RxFrame.{RxFrame}
 use Rattle.records.specs.declared.record.Record.{Record}
 use Rattle.records.specs.declared.record.Record.the-variants.{Head, Node, Tx, Rx, Signal, Destination, Broken}
 use Rattle.plan.specs.Rows.{rowsFrom}
-use Rattle.area.specs.Layout.{headerEnd, rxCountBytes, queuesStart, rxTimersStart, fullStart, rowsStart, payloadsStart, rxMasksStart}
-use Rattle.area.specs.Layout.{node, rxTimer, long, row, payload, rxMask}
-use Rattle.area.proofs.Frame.{Same, same-refl, same-then, same-set, same-setTwo, same-pick}
+use Rattle.area.specs.Layout.{headerEnd, rxCountBytes, queuesStart, rxReloadsStart, txTimersStart, rxTimersStart, fullStart, keysStart}
+use Rattle.area.specs.Layout.{payloadsStart, rxMasksStart, node, rxReload, rxTimer, long, key, rxPlace, payload, rxMask}
+use Rattle.area.proofs.Frame.{Same, same-refl, same-then, same-set, same-setLow, same-pick}
 use Rattle.opening.specs.Opened.{withTxTimer, withPayload, withFrame, withTx, withRecord, withRings, withFullness}
 use Rattle.opening.specs.Opened.{nextRx, withRxTimer, withRow, withNodeRow, withRx}
 
@@ -25,24 +25,25 @@ module _ {P : ℕ → Type 0} where
   pub put : {a b : List ℕ} {low high : ℕ} → Clear P low high → (i v : ℕ) → low ≤ i → i < high → Same P a b → Same P a (set b i v)
   put clear i v l h s = same-set i v (clear i l h) s
 
-  pub put-two : {a b : List ℕ} {low high : ℕ} → Clear P low high → (i v : ℕ) → low ≤ i → i + 1 < high → Same P a b → Same P a (setTwo b i v)
-  put-two clear i v l h s = same-setTwo i v (clear i l (omega arith)) (clear (i + 1) (omega arith) h) s
+  pub put-two : {a b : List ℕ} {low high : ℕ} → Clear P low high → (i v : ℕ) → low ≤ i → i + 1 < high → Same P a b → Same P a (setLow b i v)
+  put-two clear i v l h s = same-setLow i v (clear i l (omega arith)) (clear (i + 1) (omega arith) h) s
 
   -- ---- an Rx frame: its timer, its row, its node
 
   pub leaves-rx-timer :
-      (r : ℕ) (x : RxFrame) (a : List ℕ) → Clear P (rxTimer r) (rxTimer r + 2) → Clear P (long r) (long r + 1) → Clear P (rxMask r) (rxMask r + 1)
-      → Same P a (withRxTimer r x a)
+      (r : ℕ) (x : RxFrame) (a : List ℕ) → Clear P (rxReload r) (rxReload r + 1) → Clear P (rxTimer r) (rxTimer r + 1) → Clear P (long r) (long r + 1)
+      → Clear P (rxMask r) (rxMask r + 1) → Same P a (withRxTimer r x a)
   unfolding withRxTimer
-  leaves-rx-timer r x a timer count mask =
+  leaves-rx-timer r x a reload timer count mask =
       put count _ _ (omega arith) (omega arith) (put mask _ _ (omega arith) (omega arith)
-      (put timer _ _ (omega arith) (omega arith) (put timer _ _ (omega arith) (omega arith) (same-refl a))))
+      (put timer _ _ (omega arith) (omega arith) (put reload _ _ (omega arith) (omega arith) (same-refl a))))
 
-  pub leaves-row : (r at : ℕ) (x : RxFrame) (a : List ℕ) → Clear P (row r) (row r + 6) → Same P a (withRow r at x a)
+  pub leaves-row :
+      (r at : ℕ) (x : RxFrame) (a : List ℕ) → Clear P (key r) (key r + 4) → Clear P (rxPlace r) (rxPlace r + 2) → Same P a (withRow r at x a)
   unfolding withRow
-  leaves-row r at x a clear =
-      put-two clear _ _ (omega arith) (omega arith)
-      (put-two clear _ _ (omega arith) (omega arith) (put-two clear _ _ (omega arith) (omega arith) (same-refl a)))
+  leaves-row r at x a key place =
+      put-two place _ _ (omega arith) (omega arith)
+      (put-two key _ _ (omega arith) (omega arith) (put-two key _ _ (omega arith) (omega arith) (same-refl a)))
 
   pub leaves-node-row : (n r : ℕ) (a : List ℕ) → Clear P (node n) (node n + 4) → Same P a (withNodeRow n r a)
   unfolding withNodeRow
@@ -54,36 +55,43 @@ module _ {P : ℕ → Type 0} where
 pub record RxClear (P : ℕ → Type 0) (r n : ℕ) : Type 0 where
   pub count : Clear P rxCountBytes headerEnd
   pub node : Clear P (node n) (node n + 4)
-  pub timer : Clear P (rxTimer r) (rxTimer r + 2)
+  pub reload : Clear P (rxReload r) (rxReload r + 1)
+  pub timer : Clear P (rxTimer r) (rxTimer r + 1)
   pub long : Clear P (long r) (long r + 1)
-  pub row : Clear P (row r) (row r + 6)
+  pub key : Clear P (key r) (key r + 4)
+  pub place : Clear P (rxPlace r) (rxPlace r + 2)
   pub mask : Clear P (rxMask r) (rxMask r + 1)
 
 pub leaves-rx : {P : ℕ → Type 0} (at : ℕ) (x : RxFrame) (a : List ℕ) → RxClear P (nextRx a) (x .node % 16) → Same P a (withRx at x a)
 unfolding withRx
 leaves-rx at x a c =
     put-two (c .count) _ _ (omega arith) (omega arith)
-    (same-then (leaves-rx-timer _ x a (c .timer) (c .long) (c .mask))
-    (same-then (leaves-row _ at x _ (c .row)) (leaves-node-row _ _ _ (c .node))))
+    (same-then (leaves-rx-timer _ x a (c .reload) (c .timer) (c .long) (c .mask))
+    (same-then (leaves-row _ at x _ (c .key) (c .place)) (leaves-node-row _ _ _ (c .node))))
 
 pub rx-length : (at : ℕ) (x : RxFrame) (a : List ℕ) → length (withRx at x a) ≡ length a
 rx-length at x a = leaves-rx {P = λ j. ⊥} at x a (omega arith) .len
 
--- ---- the places that only Rx frames write, by what they are not: header, queues and Tx timers, fullness and Tx places, payloads and Tx masks
+-- ---- the places that only Rx frames write, by what they are not: header, queues and Tx reload values, Tx timers, fullness and Tx places,
+-- payloads and Tx masks
 
 pub record RxSide (j : ℕ) : Type 0 where
   pub header : rxCountBytes ≤ j
-  pub low : queuesStart ≤ j → rxTimersStart ≤ j
-  pub middle : fullStart ≤ j → rowsStart ≤ j
+  pub low : queuesStart ≤ j → rxReloadsStart ≤ j
+  pub timers : txTimersStart ≤ j → rxTimersStart ≤ j
+  pub middle : fullStart ≤ j → keysStart ≤ j
   pub high : payloadsStart ≤ j → rxMasksStart ≤ j
 
 header-clear : Clear RxSide 0 rxCountBytes
 header-clear j l h p = omega (arith, p .header)
 
-low-clear : Clear RxSide queuesStart rxTimersStart
+low-clear : Clear RxSide queuesStart rxReloadsStart
 low-clear j l h p = omega (arith, p .low l)
 
-middle-clear : Clear RxSide fullStart rowsStart
+timers-clear : Clear RxSide txTimersStart rxTimersStart
+timers-clear j l h p = omega (arith, p .timers l)
+
+middle-clear : Clear RxSide fullStart keysStart
 middle-clear j l h p = omega (arith, p .middle l)
 
 high-clear : Clear RxSide payloadsStart rxMasksStart
@@ -93,7 +101,7 @@ leaves-tx-timer : (t : ℕ) (x : TxFrame) (a : List ℕ) → t < 256 → Same Rx
 unfolding withTxTimer
 leaves-tx-timer t x a h =
     put high-clear _ _ (omega arith) (omega arith)
-    (put low-clear _ _ (omega arith) (omega arith) (put low-clear _ _ (omega arith) (omega arith) (same-refl a)))
+    (put timers-clear _ _ (omega arith) (omega arith) (put low-clear _ _ (omega arith) (omega arith) (same-refl a)))
 
 in-payload : {a b : List ℕ} (t i v : ℕ) → t < 256 → i < 8 → Same RxSide a b → Same RxSide a (set b (payload t + i) v)
 in-payload t i v h l s = put high-clear _ _ (omega arith) (omega arith) s

@@ -4,9 +4,8 @@ use mathlib.Core.List.{List, [], _∷_}
 use Prim.Native.Nat.{ℕ, zero, suc, _+_, _%_, _<_, _≤_}
 use native.Mathlib.Nat.{add-zero}
 use native.Mathlib.Omega.{arith}
-use lib.ListN.{length, set}
-use Rattle.base.specs.Numbers.{setTwo}
-use Rattle.clock.specs.Counter.{maskOf}
+use lib.ListN.{length}
+use Rattle.base.specs.Numbers.{setLow}
 use Rattle.records.specs.declared.record.Eight.{Eight}
 use Rattle.records.specs.declared.record.TxFrame.{TxFrame}
 use Rattle.records.specs.declared.record.RxFrame.{RxFrame}
@@ -16,53 +15,48 @@ use Rattle.base.specs.Pick.{pick}
 use Rattle.records.specs.Kinds.{txBytes, formOf, lengthOf, kindOf}
 use Rattle.records.specs.Records.{sizeOf, eightBytes}
 use Rattle.plan.specs.Rows.{txFrames}
-use Rattle.area.specs.Layout.{txCountBytes, rxCountBytes, queuesStart, rxTimersStart, waitsStart}
-use Rattle.area.specs.Layout.{fullStart, txPlacesStart, rowsStart, rowsEnd, rxMasksStart, masksEnd}
-use Rattle.area.specs.Layout.{queue, txTimer, txPlace, payload, txMask}
+use Rattle.area.specs.Layout.{txCountBytes, rxCountBytes, queuesStart, rxReloadsStart, txTimersStart, rxTimersStart, waitsStart}
+use Rattle.area.specs.Layout.{fullStart, txPlacesStart, keysStart, rowsEnd, rxMasksStart, masksEnd}
+use Rattle.area.specs.Layout.{queue, txReload, txTimer, txPlace, payload, txMask}
 use Rattle.area.proofs.Frame.{Same, same-refl, same-then, same-set, same-pick}
 use Rattle.opening.specs.Opened.{nextTx, withTxTimer, withPayload, withFrame, withTx, withRxTimer}
 use Rattle.opening.specs.Opened.{withRow, withNodeRow, withRx, withRecord, withRings, withFullness}
-use Rattle.tables.proofs.Stored.{None, put, put-two, stored, same-stored}
+use Rattle.tables.proofs.Stored.{None, put, put-two, written, same-written}
 
 -- ---- the parts of a Tx frame of number t
 
 -- P names none of its own places
 pub record NoTx (P : ℕ → Type 0) (t : ℕ) : Type 0 where
-  pub timer : None P (txTimer t) (txTimer t + 2)
+  pub reload : P (txReload t) → ⊥
+  pub timer : P (txTimer t) → ⊥
   pub place : None P (txPlace t) (txPlace t + 2)
   pub payload : None P (payload t) (payload t + 8)
   pub mask : P (txMask t) → ⊥
 
-pub payload-stored : (t : ℕ) (b : Eight) (a : List ℕ) → withPayload t b a ≡ stored a (payload t) 0 (eightBytes b)
-unfolding withPayload stored
-payload-stored t b a = rw (add-zero (payload t))
-
-pub timer-stored :
-    (t : ℕ) (x : TxFrame) (a : List ℕ)
-    → withTxTimer t x a ≡ set (stored a (txTimer t) 0 (x .reload ∷ x .initial ∷ [])) (txMask t) (maskOf (x .prescaler))
-unfolding withTxTimer stored
-timer-stored t x a = rw (add-zero (txTimer t))
+pub payload-written : (t : ℕ) (b : Eight) (a : List ℕ) → withPayload t b a ≡ written a (payload t) 0 (eightBytes b)
+unfolding withPayload written
+payload-written t b a = rw (add-zero (payload t))
 
 module _ {P : ℕ → Type 0} where
   pub same-payload : (t : ℕ) (b : Eight) (a : List ℕ) → None P (payload t) (payload t + 8) → Same P a (withPayload t b a)
   same-payload t b a none =
-      rw (payload-stored t b a) (same-stored a (payload t) 0 (eightBytes b) (λ j low high. none j (omega arith) (omega arith)))
+      rw (payload-written t b a) (same-written a (payload t) 0 (eightBytes b) (λ j low high. none j (omega arith) (omega arith)))
 
-  pub same-timer : (t : ℕ) (x : TxFrame) (a : List ℕ) → None P (txTimer t) (txTimer t + 2) → (P (txMask t) → ⊥) → Same P a (withTxTimer t x a)
-  same-timer t x a none mask =
-      rw (timer-stored t x a)
-      (same-set _ _ mask (same-stored a (txTimer t) 0 (x .reload ∷ x .initial ∷ []) (λ j low high. none j (omega arith) (omega arith))))
+  pub same-timer :
+      (t : ℕ) (x : TxFrame) (a : List ℕ) → (P (txReload t) → ⊥) → (P (txTimer t) → ⊥) → (P (txMask t) → ⊥) → Same P a (withTxTimer t x a)
+  unfolding withTxTimer
+  same-timer t x a reload timer mask = same-set _ _ mask (same-set _ _ timer (same-set _ _ reload (same-refl a)))
 
   pub same-frame : (n : ℕ) (a : List ℕ) → None P (queue n + 2) (queue n + 4) → Same P a (withFrame n a)
   unfolding withFrame
   same-frame n a none = put-two none _ _ (omega arith) (omega arith) (same-refl a)
 
-  -- all that is stored of it, but for the counts
+  -- all that is written of it, but for the counts
   pub same-own :
-      (t at : ℕ) (x : TxFrame) (a : List ℕ) → NoTx P t → Same P a (withPayload t (x .payload) (withTxTimer t x (setTwo a (txPlace t) at)))
+      (t at : ℕ) (x : TxFrame) (a : List ℕ) → NoTx P t → Same P a (withPayload t (x .payload) (withTxTimer t x (setLow a (txPlace t) at)))
   same-own t at x a f =
       same-then (put-two (f .place) (txPlace t) at (omega arith) (omega arith) (same-refl a))
-      (same-then (same-timer t x _ (f .timer) (f .mask)) (same-payload t (x .payload) _ (f .payload)))
+      (same-then (same-timer t x _ (f .reload) (f .timer) (f .mask)) (same-payload t (x .payload) _ (f .payload)))
 
   pub same-tx :
       (at : ℕ) (x : TxFrame) (a : List ℕ) → NoTx P (nextTx a) → None P (queue (x .node % 16) + 2) (queue (x .node % 16) + 4) → None P txCountBytes rxCountBytes
@@ -79,8 +73,9 @@ tx-length at x a = same-tx {P = λ j. ⊥} at x a (omega arith) (omega arith) (o
 -- P names no place of the header, the nodes and the Rx frames
 pub record NoRx (P : ℕ → Type 0) : Type 0 where
   pub low : None P 0 queuesStart
+  pub reloads : None P rxReloadsStart txTimersStart
   pub timers : None P rxTimersStart waitsStart
-  pub rows : None P rowsStart rowsEnd
+  pub rows : None P keysStart rowsEnd
   pub masks : None P rxMasksStart masksEnd
 
 module _ {P : ℕ → Type 0} (f : NoRx P) where
@@ -88,7 +83,7 @@ module _ {P : ℕ → Type 0} (f : NoRx P) where
   unfolding withRxTimer
   same-rx-timer r x a h =
       put (f .timers) _ _ (omega arith) (omega arith) (put (f .masks) _ _ (omega arith) (omega arith)
-      (put (f .timers) _ _ (omega arith) (omega arith) (put (f .timers) _ _ (omega arith) (omega arith) (same-refl a))))
+      (put (f .timers) _ _ (omega arith) (omega arith) (put (f .reloads) _ _ (omega arith) (omega arith) (same-refl a))))
 
   same-row : (r at : ℕ) (x : RxFrame) (a : List ℕ) → r < 256 → Same P a (withRow r at x a)
   unfolding withRow

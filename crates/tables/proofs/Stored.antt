@@ -7,9 +7,9 @@ use native.Mathlib.Nat.{add-zero, zero-add, eq-or-lt-of-le}
 use native.Mathlib.Omega.{arith}
 use lib.ListN.{length, set, length-set}
 use lib.Seq.{getD-set-same}
-use Rattle.base.specs.Numbers.{byteAt, twoAt, setTwo}
-use Rattle.area.proofs.Frame.{Same, same-refl, same-then, same-set, same-setTwo, same-two}
-use Rattle.opening.proofs.BlankLaws.{two-set}
+use Rattle.base.specs.Numbers.{byteAt, lowAt, setLow}
+use Rattle.base.proofs.Ranges.{low-same}
+use Rattle.area.proofs.Frame.{Same, same-refl, same-then, same-set, same-setLow, same-two}
 
 -- P names no place from lo on and before hi
 abbrev pub None : (ℕ → Type 0) → ℕ → ℕ → Type 0
@@ -19,58 +19,58 @@ module _ {P : ℕ → Type 0} {lo hi : ℕ} (none : None P lo hi) where
   pub put : {a b : List ℕ} (i v : ℕ) → lo ≤ i → i < hi → Same P a b → Same P a (set b i v)
   put i v low high s = same-set i v (none i low high) s
 
-  pub put-two : {a b : List ℕ} (i v : ℕ) → lo ≤ i → i + 1 < hi → Same P a b → Same P a (setTwo b i v)
-  put-two i v low high s = same-setTwo i v (none i low (omega arith)) (none (i + 1) (omega arith) high) s
+  pub put-two : {a b : List ℕ} (i v : ℕ) → lo ≤ i → i + 1 < hi → Same P a b → Same P a (setLow b i v)
+  put-two i v low high s = same-setLow i v (none i low (omega arith)) (none (i + 1) (omega arith) high) s
 
 -- ---- stores in a row: vs from i + k on
 
-unfoldable pub stored : List ℕ → ℕ → ℕ → List ℕ → List ℕ
-stored a i k [] = a
-stored a i k (v ∷ vs) = stored (set a (i + k) v) i (suc k) vs
+unfoldable pub written : List ℕ → ℕ → ℕ → List ℕ → List ℕ
+written a i k [] = a
+written a i k (v ∷ vs) = written (set a (i + k) v) i (suc k) vs
 
-pub same-stored : {P : ℕ → Type 0} (a : List ℕ) (i k : ℕ) (vs : List ℕ) → None P (i + k) (i + k + length vs) → Same P a (stored a i k vs)
-unfolding stored
-same-stored a i k [] none = same-refl a
-same-stored a i k (v ∷ vs) none =
+pub same-written : {P : ℕ → Type 0} (a : List ℕ) (i k : ℕ) (vs : List ℕ) → None P (i + k) (i + k + length vs) → Same P a (written a i k vs)
+unfolding written
+same-written a i k [] none = same-refl a
+same-written a i k (v ∷ vs) none =
     same-then
     (put none (i + k) v (omega arith) (omega arith) (same-refl a))
-    (same-stored (set a (i + k) v) i (suc k) vs (λ j low high. none j (omega arith) (omega arith)))
+    (same-written (set a (i + k) v) i (suc k) vs (λ j low high. none j (omega arith) (omega arith)))
 
-stored-from :
-    (a : List ℕ) (i k : ℕ) (vs : List ℕ) (j : ℕ) → j < length vs → i + k + length vs ≤ length a → byteAt (stored a i k vs) (i + (k + j)) ≡ byteAt vs j
-unfolding stored
-stored-from a i k [] j h l = absurd (omega arith)
-stored-from a i k (v ∷ vs) zero h l =
-    let s = same-stored {P = λ j. j ≡ i + k} (set a (i + k) v) i (suc k) vs (λ j low high e. omega arith) in
+written-from :
+    (a : List ℕ) (i k : ℕ) (vs : List ℕ) (j : ℕ) → j < length vs → i + k + length vs ≤ length a → byteAt (written a i k vs) (i + (k + j)) ≡ byteAt vs j
+unfolding written
+written-from a i k [] j h l = absurd (omega arith)
+written-from a i k (v ∷ vs) zero h l =
+    let s = same-written {P = λ j. j ≡ i + k} (set a (i + k) v) i (suc k) vs (λ j low high e. omega arith) in
     rw add-zero (s .at (i + k) refl ∙ getD-set-same a (i + k) v 0 (omega arith))
-stored-from a i k (v ∷ vs) (suc j) h l =
+written-from a i k (v ∷ vs) (suc j) h l =
     let e : k + suc j ≡ suc k + j = omega arith in
-    rw e (stored-from (set a (i + k) v) i (suc k) vs j (omega arith) (omega (arith, length-set a (i + k) v)))
+    rw e (written-from (set a (i + k) v) i (suc k) vs j (omega arith) (omega (arith, length-set a (i + k) v)))
 
-pub stored-at : (a : List ℕ) (i : ℕ) (vs : List ℕ) (j : ℕ) → j < length vs → i + length vs ≤ length a → byteAt (stored a i 0 vs) (i + j) ≡ byteAt vs j
-stored-at a i vs j h l = rw zero-add at (stored-from a i 0 vs j h (omega arith))
+pub written-at : (a : List ℕ) (i : ℕ) (vs : List ℕ) (j : ℕ) → j < length vs → i + length vs ≤ length a → byteAt (written a i 0 vs) (i + j) ≡ byteAt vs j
+written-at a i vs j h l = rw zero-add at (written-from a i 0 vs j h (omega arith))
 
 -- ---- a table of two-byte numbers, written from its first row on
 
 module _
-    (f : ℕ → List ℕ) (place value : ℕ → ℕ) (step : (n : ℕ) → f (suc n) ≡ setTwo (f n) (place n) (value n))
+    (f : ℕ → List ℕ) (place value : ℕ → ℕ) (step : (n : ℕ) → f (suc n) ≡ setLow (f n) (place n) (value n))
     (rises : (m n : ℕ) → m < n → place m + 2 ≤ place n) (most : ℕ) (fits : (n : ℕ) → n < most → (place n + 1 < length (f 0)) × (value n < 65536))
   where
     rows-length : (n : ℕ) → length (f n) ≡ length (f 0)
     rows-length zero = refl
     rows-length (suc n) = rw (step n, length-set, length-set) (rows-length n)
 
-    pub rows-at : (n : ℕ) → n ≤ most → (k : ℕ) → k < n → twoAt (f n) (place k) ≡ value k
+    pub rows-at : (n : ℕ) → n ≤ most → (k : ℕ) → k < n → lowAt (f n) (place k) ≡ value k
     rows-at zero h k l = absurd (omega arith)
     rows-at (suc n) h k l =
         let len = rows-length n in
         let fit = fits n (omega arith) in
         rw (step n)
         (⊎-elim
-        (λ (e : k ≡ n). rw e (two-set (f n) (place n) (value n) (omega arith) (fit .1)))
+        (λ (e : k ≡ n). rw e (low-same (f n) (place n) (value n) (omega arith) (fit .1)))
         (λ (m : k < n).
         let apart = rises k n m in
         let P : ℕ → Type 0 = λ j. (place k ≤ j) × (j < place k + 2) in
-        let s : Same P (f n) (setTwo (f n) (place n) (value n)) = same-setTwo (place n) (value n) (omega arith) (omega arith) (same-refl (f n)) in
+        let s : Same P (f n) (setLow (f n) (place n) (value n)) = same-setLow (place n) (value n) (omega arith) (omega arith) (same-refl (f n)) in
         same-two s (place k) (omega arith) (omega arith) ∙ rows-at n (omega arith) k m)
         (eq-or-lt-of-le (omega arith)))

@@ -4,7 +4,7 @@ use mathlib.Core.List.{List, [], _∷_}
 use Prim.Native.Nat.{ℕ, _+_, _%_, _<_, _≤_}
 use native.Mathlib.Omega.{arith}
 use lib.ListN.{length}
-use Rattle.base.specs.Numbers.{twoAt}
+use Rattle.base.specs.Numbers.{lowAt}
 use Rattle.records.specs.declared.record.TxFrame.{TxFrame}
 use Rattle.records.specs.declared.record.Record.{Record}
 use Rattle.records.specs.declared.record.Record.the-variants.{Tx}
@@ -12,9 +12,9 @@ use Rattle.base.specs.Pick.{pick}
 use Rattle.records.specs.Kinds.{formOf, lengthOf, kindOf}
 use Rattle.records.specs.Records.{sizeOf}
 use Rattle.plan.specs.Rows.{txFrames}
-use Rattle.area.specs.Layout.{txCountBytes, headerEnd, queuesStart, txTimersStart, waitsStart, fullStart}
+use Rattle.area.specs.Layout.{txCountBytes, headerEnd, queuesStart, txReloadsStart, txTimersStart, waitsStart, fullStart}
 use Rattle.area.specs.Layout.{txPlacesStart, rowsEnd, payloadsStart, txMasksStart, masksEnd}
-use Rattle.area.specs.Layout.{queue, txTimer, txPlace, payload, txMask}
+use Rattle.area.specs.Layout.{queue, txReload, txTimer, txPlace, payload, txMask}
 use Rattle.area.proofs.Frame.{Same, same-refl, same-then}
 use Rattle.opening.specs.Opened.{nextTx, withTx, withRecord, withRecords, withRings, withFullness}
 use Rattle.opening.proofs.Counted.{counts}
@@ -25,7 +25,8 @@ use Rattle.tables.proofs.Spared.{NoTx, same-tx, tx-length, NoRx, Other,
 
 pub record Left (k j : ℕ) : Type 0 where
   pub low : queuesStart ≤ j
-  pub queues : j < txTimersStart → 4 ≤ j % 8
+  pub queues : j < txReloadsStart → 4 ≤ j % 8
+  pub reloads : txReloadsStart ≤ j → j < txTimersStart → j < txReload k
   pub timers : txTimersStart ≤ j → j < waitsStart → j < txTimer k
   pub tables : fullStart ≤ j → j < rowsEnd → (txPlacesStart ≤ j) × (j < txPlace k)
   pub payloads : payloadsStart ≤ j → j < txMasksStart → j < payload k
@@ -34,6 +35,7 @@ pub record Left (k j : ℕ) : Type 0 where
 left-rx : (k : ℕ) → k ≤ 256 → NoRx (Left k)
 left-rx k h = record {
   low = λ j l m p. omega arith;
+  reloads = λ j l m p. omega (arith, p .reloads (omega arith) m);
   timers = λ j l m p. omega (arith, p .timers (omega arith) m);
   rows = λ j l m p. omega (arith, p .tables (omega arith) m);
   masks = λ j l m p. omega (arith, p .masks (omega arith) m);
@@ -41,7 +43,8 @@ left-rx k h = record {
 
 left-tx : (k t : ℕ) → k ≤ t → t < 256 → NoTx (Left k) t
 left-tx k t h b = record {
-  timer = λ j l m p. omega (arith, p .timers (omega arith) (omega arith));
+  reload = λ p. omega (arith, p .reloads (omega arith) (omega arith));
+  timer = λ p. omega (arith, p .timers (omega arith) (omega arith));
   place = λ j l m p. omega (arith, p .tables (omega arith) (omega arith));
   payload = λ j l m p. omega (arith, p .payloads (omega arith) (omega arith));
   mask = λ p. omega (arith, p .masks (omega arith) (omega arith));
@@ -53,14 +56,14 @@ left-queues k n h j l m p = omega (arith, p .queues (omega arith))
 -- ---- the area after one record: its length, and the number that the next Tx frame gets
 
 pub next-tx :
-    (at : ℕ) (x : TxFrame) (a : List ℕ) → headerEnd ≤ length a → twoAt a txCountBytes < 256
-    → (length (withTx at x a) ≡ length a) × (twoAt (withTx at x a) txCountBytes ≡ twoAt a txCountBytes + 1)
+    (at : ℕ) (x : TxFrame) (a : List ℕ) → headerEnd ≤ length a → lowAt a txCountBytes < 256
+    → (length (withTx at x a) ≡ length a) × (lowAt (withTx at x a) txCountBytes ≡ lowAt a txCountBytes + 1)
 unfolding withRecords withRecord txFrames
 next-tx at x a l h = (tx-length at x a, counts at (Tx x ∷ []) a l .tx (omega arith))
 
 pub next-other :
-    (at : ℕ) (r : Record) (a : List ℕ) → Other r → headerEnd ≤ length a → twoAt a txCountBytes ≤ 256
-    → (length (withRecord at r a) ≡ length a) × (twoAt (withRecord at r a) txCountBytes ≡ twoAt a txCountBytes)
+    (at : ℕ) (r : Record) (a : List ℕ) → Other r → headerEnd ≤ length a → lowAt a txCountBytes ≤ 256
+    → (length (withRecord at r a) ≡ length a) × (lowAt (withRecord at r a) txCountBytes ≡ lowAt a txCountBytes)
 unfolding withRecords txFrames
 next-other at r a o l h =
     let e : length (txFrames (r ∷ [])) ≡ 0 = ap length (o .frames []) in
@@ -69,7 +72,7 @@ next-other at r a o l h =
 -- ---- so what stands of the Tx frames below k is left by all records that follow
 
 abbrev LeftBy : ℕ → ℕ → List Record → List ℕ → Type 0
-LeftBy k at rs a = k ≤ twoAt a txCountBytes → twoAt a txCountBytes + length (txFrames rs) ≤ 256 → headerEnd ≤ length a → Same (Left k) a (withRecords at rs a)
+LeftBy k at rs a = k ≤ lowAt a txCountBytes → lowAt a txCountBytes + length (txFrames rs) ≤ 256 → headerEnd ≤ length a → Same (Left k) a (withRecords at rs a)
 
 pub left-records : (k at : ℕ) (rs : List Record) (a : List ℕ) → LeftBy k at rs a
 unfolding withRecords withRecord formOf lengthOf kindOf sizeOf pick txFrames

@@ -4,7 +4,8 @@ use mathlib.Core.List.{List}
 use Prim.Native.Nat.{ℕ, zero, suc, _+_, _/_, _<_, _≤_}
 use native.Mathlib.Omega.{arith}
 use lib.ListN.{length, getD}
-use Rattle.base.specs.Numbers.{byteAt, twoAt}
+use Rattle.base.specs.Numbers.{byteAt, lowAt}
+use Rattle.base.proofs.Ranges.{at-most-is}
 use Rattle.bits.specs.Payload.{digitOf, bitAt}
 use Rattle.bits.specs.Owners.{owners}
 use Rattle.bits.proofs.OwnerLaws.{owners-le}
@@ -15,14 +16,15 @@ use Rattle.plan.specs.Rows.{txOf, nodesIn, orderIn}
 use Rattle.facts.specs.Good.{GoodPlan}
 use Rattle.facts.proofs.GoodFacts.{good-facts}
 use Rattle.facts.proofs.Bounds.{good-bounds}
-use Rattle.area.specs.Layout.{orderByte, nodeCountByte, txCountBytes, fullStart, planStart, LongEnough}
-use Rattle.area.specs.Layout.{queue, txTimer, waits, full, payload, spot, order, txFrame}
+use Rattle.area.specs.Layout.{orderByte, nodeCountByte, txCountBytes, fullStart, planStart, lastPlace, LongEnough}
+use Rattle.area.specs.Layout.{queue, txTimer, waits, full, txPlace, payload, spot, order, stored, txFrame}
 use Rattle.area.specs.Queue.{endsOf}
 use Rattle.area.proofs.Frame.{Same, same-two}
 use Rattle.opening.specs.Opened.{blank, withRecords, ringsBefore, withRings, withFullness, opened}
 use Rattle.opening.proofs.BlankLaws.{blank-length, blank-zero}
 use Rattle.opening.proofs.OpenedLaws.{opened-length, opened-marked, opened-plan, opened-counts}
 use Rattle.tables.specs.Reads.{plannedTx, framesOn, Header, TxTable, Rings, initial}
+use Rattle.tables.proofs.Verbatim.{opened-verbatim, tx-ends, tx-read}
 use Rattle.tables.proofs.Stored.{rows-at}
 use Rattle.tables.proofs.Spared.{same-rings, same-fullness}
 use Rattle.tables.proofs.TxLeft.{Left, left-records, left-last}
@@ -38,7 +40,7 @@ digit-spot (suc o) t b = omega arith
 
 -- the fullness of each frame is read as it was stored
 fullness-at :
-    (sets : List ℕ) (a : List ℕ) → LongEnough a → (t : ℕ) → t < 256 → twoAt (withFullness sets 256 a) (full t) ≡ owners (getD sets t 0) 64
+    (sets : List ℕ) (a : List ℕ) → LongEnough a → (t : ℕ) → t < 256 → lowAt (withFullness sets 256 a) (full t) ≡ owners (getD sets t 0) 64
 unfolding withFullness
 fullness-at sets a long t h =
     rows-at (λ n. withFullness sets n a) full (λ n. owners (getD sets n 0) 64) (λ n. refl) (omega arith) 256
@@ -62,7 +64,7 @@ module _ (plan a : List ℕ) (n t r : ℕ) (good : checkPlan plan ≡ Good n t r
   long : LongEnough (blank plan a)
   long = omega (arith, blank-length plan a)
 
-  none : twoAt (blank plan a) txCountBytes ≡ 0
+  none : lowAt (blank plan a) txCountBytes ≡ 0
   none = omega (arith, zeros txCountBytes (omega arith) (omega arith), zeros (txCountBytes + 1) (omega arith) (omega arith))
 
   -- what the records leave of the blank area, and what the rings and the fullness leave then
@@ -113,16 +115,26 @@ module _ (plan a : List ℕ) (n t r : ℕ) (good : checkPlan plan ≡ Good n t r
   puts k h =
       let short = good-bounds plan n t r good .short in
       let p = put-records plan (omega arith) 0 (records plan) (blank plan a) refl long (omega (arith, none, few)) k h in
-      let number : twoAt (blank plan a) txCountBytes + k ≡ k = omega (arith, none) in
+      let number : lowAt (blank plan a) txCountBytes + k ≡ k = omega (arith, none) in
       put-kept plan recorded (opened plan a) k (length (txOf plan)) (plannedTx plan k) h few (left-opened _) (rw number at p)
 
+  frame-is : (k : ℕ) → k < length (txOf plan) → txFrame (opened plan a) k ≡ plannedTx plan k
+  unfolding txFrame
+  frame-is k h =
+      let short = good-bounds plan n t r good .short in
+      let at = lowAt (opened plan a) (txPlace k) in
+      let is = puts k h .reads in
+      let near : at ≤ lastPlace = omega (arith, tx-ends plan at (plannedTx plan k) is) in
+      rw (at-most-is lastPlace at near)
+      (tx-read plan (stored (opened plan a)) (opened-verbatim plan a room (omega arith)) at (plannedTx plan k) is)
+
   pub opened-tx : (k : ℕ) → k < length (txOf plan) → TxTable plan (opened plan a) k
-  unfolding txFrame opened
+  unfolding opened
   opened-tx k h =
       let p = puts k h in
       let s = same-rings {P = λ j. ⊥} 16 recorded (omega arith) in
       record {
-        frame = rw (opened-header .holds) (p .frame);
+        frame = frame-is k h;
         reload = p .reload;
         mask = p .mask;
         full = fullness-at (setsOf plan) (withRings 16 recorded) (omega (arith, left-blank .len, long)) k (omega (arith, few));
@@ -130,7 +142,7 @@ module _ (plan a : List ℕ) (n t r : ℕ) (good : checkPlan plan ≡ Good n t r
 
   -- ---- the queues
 
-  counted : (k : ℕ) → k < 16 → twoAt recorded (queue k + 2) ≡ framesOn k (txOf plan)
+  counted : (k : ℕ) → k < 16 → lowAt recorded (queue k + 2) ≡ framesOn k (txOf plan)
   unfolding txOf
   counted k h =
       let z = zeros (queue k + 2) (omega arith) (omega arith) in
@@ -169,7 +181,7 @@ module _ (plan a : List ℕ) (n t r : ℕ) (good : checkPlan plan ≡ Good n t r
   pub opened-bytes : (k i : ℕ) → k < length (txOf plan) → i < 8 → byteAt (opened plan a) (payload k + i) ≡ getD (eightBytes (plannedTx plan k .payload)) i 0
   opened-bytes k i h l = puts k h .payload i l
 
-  pub opened-tx-timer : (k : ℕ) → k < length (txOf plan) → byteAt (opened plan a) (txTimer k + 1) ≡ plannedTx plan k .initial
+  pub opened-tx-timer : (k : ℕ) → k < length (txOf plan) → byteAt (opened plan a) (txTimer k) ≡ plannedTx plan k .initial
   opened-tx-timer k h = puts k h .initial
 
   pub opened-waits : (k : ℕ) → k < 256 → byteAt (opened plan a) (waits k) ≡ 0

@@ -3,11 +3,11 @@ use mathlib.Core.Path.{_≡_}
 use mathlib.Core.Logic.{_≢_}
 use mathlib.Core.Bool.{true}
 use mathlib.Core.List.{List, [], _∷_}
-use Prim.Native.Nat.{ℕ, _+_, _*_, _≤_, _<_}
+use Prim.Native.Nat.{ℕ, _+_, _≤_, _<_}
 use lib.Dec.{eqb}
 use lib.ListN.{length, getD}
 use Rattle.base.specs.Pick.{pick}
-use Rattle.base.specs.Numbers.{byteAt, twoAt}
+use Rattle.base.specs.Numbers.{byteAt, lowAt}
 use Rattle.bits.specs.Payload.{bitAt}
 use Rattle.bits.specs.Owners.{owners}
 use Rattle.clock.specs.Counter.{maskOf}
@@ -16,10 +16,9 @@ use Rattle.records.specs.Views.{noTx}
 use Rattle.records.specs.Records.{records, eightBytes}
 use Rattle.plan.specs.Check.{setsOf}
 use Rattle.plan.specs.Rows.{Row, noRow, rowsOf, txOf, nodesIn, orderIn}
-use Rattle.area.specs.Layout.{LongEnough, txTimer, rxTimer, long, waits, full, row, txMask, rxMask, spot, marked}
-use Rattle.area.specs.Layout.{counter, order, nodeCount, txCount, rxCount, planOf, txFrame, rxFrame, claims}
+use Rattle.area.specs.Layout.{LongEnough, txReload, rxReload, txTimer, rxTimer, long, waits, full, txMask, rxMask, spot, marked}
+use Rattle.area.specs.Layout.{counter, order, nodeCount, txCount, rxCount, firstRow, rowCount, keyAt, planOf, txFrame, rxFrame, claims}
 use Rattle.area.specs.Queue.{endsOf, Apart}
-use Rattle.area.specs.Layout.{firstRow, rowCount}
 
 -- ---- the plan's frames by number; a number that is no frame's has an empty one
 
@@ -48,16 +47,16 @@ pub record Header (plan a : List ℕ) : Type 0 where
 -- of Tx frame t: its record, its reload value, its mask, and how many of its bits have an owner
 pub record TxTable (plan a : List ℕ) (t : ℕ) : Type 0 where
   pub frame : txFrame a t ≡ plannedTx plan t
-  pub reload : byteAt a (txTimer t) ≡ plannedTx plan t .reload
+  pub reload : byteAt a (txReload t) ≡ plannedTx plan t .reload
   pub mask : byteAt a (txMask t) ≡ maskOf (plannedTx plan t .prescaler)
-  pub full : twoAt a (full t) ≡ owners (getD (setsOf plan) t 0) 64
+  pub full : lowAt a (full t) ≡ owners (getD (setsOf plan) t 0) 64
 
 -- of Rx frame r: its record, its claims, its key, its reload value and its mask
 pub record RxTable (plan a : List ℕ) (r : ℕ) : Type 0 where
   pub frame : rxFrame a r ≡ rowAt plan r .frame
   pub claims : claims a r ≡ rowAt plan r .claims
-  pub key : twoAt a (row r) * 65536 + twoAt a (row r + 2) ≡ rowAt plan r .frame .id
-  pub reload : byteAt a (rxTimer r) ≡ rowAt plan r .frame .reload
+  pub key : keyAt a r ≡ rowAt plan r .frame .id
+  pub reload : byteAt a (rxReload r) ≡ rowAt plan r .frame .reload
   pub mask : byteAt a (rxMask r) ≡ maskOf (rowAt plan r .frame .prescaler)
 
 -- a node's rows are exactly the plan's Rx frames of that node
@@ -88,8 +87,8 @@ initial plan t b = bitAt (orderIn (records plan)) (eightBytes (plannedTx plan t 
 pub record Begun (plan a : List ℕ) : Type 0 where
   pub count : counter a ≡ 0
   pub payload : (t b : ℕ) → t < length (txOf plan) → b < 64 → bitAt (order a) a (spot t b) ≡ initial plan t b
-  pub txTimer : (t : ℕ) → t < length (txOf plan) → byteAt a (txTimer t + 1) ≡ plannedTx plan t .initial
-  pub rxTimer : (r : ℕ) → r < length (rowsOf plan) → byteAt a (rxTimer r + 1) ≡ rowAt plan r .frame .initial
+  pub txTimer : (t : ℕ) → t < length (txOf plan) → byteAt a (txTimer t) ≡ plannedTx plan t .initial
+  pub rxTimer : (r : ℕ) → r < length (rowsOf plan) → byteAt a (rxTimer r) ≡ rowAt plan r .frame .initial
   pub long : (r : ℕ) → r < length (rowsOf plan) → byteAt a (long r) ≡ rowAt plan r .frame .long
   pub waits : (t : ℕ) → t < 256 → byteAt a (waits t) ≡ 0
   pub empty : (n : ℕ) → n < 16 → (endsOf a n .first ≡ 0) × (endsOf a n .waiting ≡ 0)

@@ -6,7 +6,6 @@ use Prim.Native.Nat.{ℕ, _-_, _≤_, _<_}
 use borrow.Author.Tests.{lt-ltb, le-ltb, eq-eqb, ne-eqb}
 use Rattle.base.specs.Pick.{pick}
 use Rattle.records.specs.declared.record.TxNumber.{TxNumber}
-use Rattle.records.specs.declared.record.TxFrame.{TxFrame}
 use Rattle.area.specs.Layout.{marked, nodeCount, txCount, inWidth, ownedBits, txFrame}
 use Rattle.area.specs.Queue.{endsOf, oldest, dequeued}
 use Rattle.area.specs.declared.queue.Ends.{Ends}
@@ -38,12 +37,12 @@ module _ (a : List ℕ) (n : ℕ) where
           let u = eq-eqb (endsOf a n .waiting) 0 e in
           (rw (opened, t, u), rw (opened, t, u))
 
-      -- e are the ends of the queue, t is the oldest frame, and x its record
+      -- e are the ends of the queue, and t is the oldest frame
       pub leaves :
-          (e : Ends) (t : TxNumber) (x : TxFrame) (size : ℕ) (b : List ℕ) → e ≡ endsOf a n → t .0 ≡ oldest a n → x ≡ txFrame a (t .0)
-          → size ≡ inWidth (x .size) → (e .waiting ≡ 0 → ⊥) → b ≡ dequeued a n → Comes (taken.Frame t (x .id) size (e .waiting - 1)) b
+          (e : Ends) (t : TxNumber) (id size : ℕ) (b : List ℕ) → e ≡ endsOf a n → t .0 ≡ oldest a n → id ≡ txFrame a (t .0) .id
+          → size ≡ inWidth (txFrame a (t .0) .size) → (e .waiting ≡ 0 → ⊥) → b ≡ dequeued a n → Comes (taken.Frame t id size (e .waiting - 1)) b
       unfolding takenAnswer takenArea oldestAnswer oldestArea pick
-      leaves e t x size b ends first read sized d left =
+      leaves e t id size b ends first read sized d left =
           let k = lt-ltb n (nodeCount a) known in
           let u = ne-eqb (endsOf a n .waiting) 0 (rw ends at d) in
           (rw (opened, k, u, ← first, sized, read, ends), rw (opened, k, u) left)

@@ -3,9 +3,10 @@ use answers::Fullness;
 use answers::Refusal;
 use answers::Taken;
 use area::frames::owned_bits;
-use area::frames::tx_frame;
+use area::frames::tx_id;
+use area::frames::tx_size;
+use area::header::has_node;
 use area::header::is_marked;
-use area::header::node_count;
 use area::header::tx_count;
 use area::layout;
 use area::layout::AREA_LENGTH;
@@ -14,7 +15,6 @@ use area::layout::in_width;
 use area::queue::dequeue;
 use area::queue::ends_at;
 use area::queue::oldest_of;
-use base::wide;
 use records::record::TxNumber;
 ghost use mathlib.Core.Path.{_≡_};
 ghost use Rattle.taking.specs.Taken.{takenAnswer, takenArea, keptPart, takenPayload, fullnessAnswer};
@@ -28,7 +28,8 @@ pub fn take(area: &mut [u8], node: usize) -> Taken
     if !open {
         return Taken::Refused(Refusal::NotOpen);
     }
-    if node_count(area) <= node {
+    let there = has_node(area, node);
+    if !there {
         return Taken::Refused(Refusal::NoNode);
     }
     let ends = ends_at(area, node);
@@ -36,12 +37,13 @@ pub fn take(area: &mut [u8], node: usize) -> Taken
         return Taken::Nothing;
     }
     let t = oldest_of(area, ends);
-    let frame = tx_frame(area, t);
+    let id = tx_id(area, t);
+    let size = tx_size(area, t);
     dequeue(area, node, ends, t);
     Taken::Frame {
         tx: t,
-        id: frame.id,
-        size: in_width(wide(frame.size)),
+        id,
+        size: in_width(size),
         waiting: ends.waiting - 1,
     }
 }

@@ -8,6 +8,7 @@ use lib.ListN.{length, set, drop, length-set}
 use lib.Seq.{getD-set-same, getD-set-other}
 use Rattle.base.specs.Numbers.{byteAt}
 use Rattle.base.proofs.Picks.{both}
+use Rattle.base.proofs.Ranges.{at-most-le}
 use Rattle.clock.specs.Counter.{counterNext}
 use Rattle.answers.specs.declared.Ticked.{Ticked}
 use Rattle.answers.specs.declared.Ticked.the-variants.{Done, Refused}
@@ -38,8 +39,8 @@ pub counter-ticked : (a : List ℕ) → counterByte < length a → counter (tick
 unfolding ticked
 counter-ticked a h =
     let timers = rxTicks (counter a) (rxCount a) (txTicks (counter a) (txCount a) a) in
-    let tx = same-txTicks spared-mark (counter a) (txCount a) a (omega arith) .len in
-    let rx : length timers ≡ length a = same-rxTicks spared-mark (λ q t l p. omega arith) _ (rxCount a) _ (omega arith) .len ∙ tx in
+    let tx = same-txTicks spared-mark (counter a) (txCount a) a (at-most-le 256 _) .len in
+    let rx : length timers ≡ length a = same-rxTicks spared-mark (λ q t l p. omega arith) _ (rxCount a) _ (at-most-le 256 _) .len ∙ tx in
     getD-set-same timers counterByte _ 0 (omega arith)
 
 -- ---- where the failure positions are bytes: the plan, the frames, the claims, and every byte from the plan on

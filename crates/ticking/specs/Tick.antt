@@ -1,5 +1,5 @@
 -- "Tick. .. The counter moves on last. .. Tx timers go first, in number order: expiry reloads and schedules. Rx timers follow, in number order."
-use Prim.Native.Nat.{ℕ, zero, suc, _+_}
+use Prim.Native.Nat.{ℕ, zero, suc}
 use mathlib.Core.List.{List}
 use lib.Dec.{leb, eqb}
 use lib.ListN.{length, set}
@@ -7,7 +7,8 @@ use Rattle.base.specs.Pick.{pick}
 use Rattle.base.specs.Numbers.{byteAt}
 use Rattle.clock.specs.Counter.{counterNext, noCommonBit}
 use Rattle.clock.specs.Timer.{lowered}
-use Rattle.area.specs.Layout.{counterByte, txTimer, rxTimer, long, txMask, rxMask, marked, counter, order, txCount, rxCount, rxFrame, claims}
+use Rattle.area.specs.Layout.{counterByte, txReload, rxReload, txTimer, rxTimer, long, txMask, rxMask}
+use Rattle.area.specs.Layout.{marked, counter, order, txCount, rxCount, rxFrame, claims}
 use Rattle.area.specs.Queue.{scheduled}
 use Rattle.area.specs.Claims.{expired, allDone}
 use Rattle.answers.specs.declared.Refusal.the-variants.{NotOpen, ShortReport}
@@ -16,16 +17,17 @@ use Rattle.answers.specs.declared.Ticked.the-variants.{Done, Refused}
 
 -- ---- a timer at a place
 
--- "A timer holding 0 is left so. Otherwise it falls by one; at 0 it has expired and takes its reload value." at is the place of its reload value
-unfoldable pub timed : List ℕ → ℕ → List ℕ
-timed a at = set a (at + 1) (lowered (byteAt a at) (byteAt a (at + 1)))
+-- "A timer holding 0 is left so. Otherwise it falls by one; at 0 it has expired and takes its reload value." The places are that of its reload
+-- value, and that of its count
+unfoldable pub timed : List ℕ → ℕ → ℕ → List ℕ
+timed a reload at = set a at (lowered (byteAt a reload) (byteAt a at))
 
 -- ---- Tx timers
 
 unfoldable pub txTick : ℕ → List ℕ → ℕ → List ℕ
 txTick k a t =
     pick (noCommonBit k (byteAt a (txMask t)))
-    (pick (eqb (byteAt a (txTimer t + 1)) 1) (scheduled (timed a (txTimer t)) t) (timed a (txTimer t)))
+    (pick (eqb (byteAt a (txTimer t)) 1) (scheduled (timed a (txReload t) (txTimer t)) t) (timed a (txReload t) (txTimer t)))
     a
 
 -- the first n
@@ -50,11 +52,11 @@ expiredReport a r = pick (eqb (byteAt a (long r)) 1) 2 1
 unfoldable pub rxTick : ℕ → List ℕ → ℕ → List ℕ
 rxTick k a r =
     pick (noCommonBit k (byteAt a (rxMask r)))
-    (pick (eqb (byteAt a (rxTimer r + 1)) 1) (expiredArea (timed a (rxTimer r)) r) (timed a (rxTimer r)))
+    (pick (eqb (byteAt a (rxTimer r)) 1) (expiredArea (timed a (rxReload r) (rxTimer r)) r) (timed a (rxReload r) (rxTimer r)))
     a
 
 unfoldable pub rxReport : ℕ → List ℕ → ℕ → ℕ
-rxReport k a r = pick (noCommonBit k (byteAt a (rxMask r))) (pick (eqb (byteAt a (rxTimer r + 1)) 1) (expiredReport a r) 0) 0
+rxReport k a r = pick (noCommonBit k (byteAt a (rxMask r))) (pick (eqb (byteAt a (rxTimer r)) 1) (expiredReport a r) 0) 0
 
 unfoldable pub rxTicks : ℕ → ℕ → List ℕ → List ℕ
 rxTicks k zero a = a

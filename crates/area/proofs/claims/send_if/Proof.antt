@@ -1,8 +1,8 @@
 -- `area::claims::send_if` meets its contract: by the flags and whether a bit changed.
 use borrow.Author.Tests.{eq-eqb, ne-eqb}
-use borrow.Author.Needs.{needs}
 use Rattle.base.specs.Pick.{pick}
 use Rattle.area.specs.Claims.{sentIf}
+use borrow.Author.Needs.{needs}
 use Rattle.area.proofs.claims.send_if.Statement.{statement}
 use Rattle.area.proofs.claims.send_if.Tie as tie
 

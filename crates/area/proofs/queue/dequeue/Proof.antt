@@ -1,6 +1,6 @@
 -- `area::queue::dequeue` meets its contract: the ends and the frame are those of the area as it was.
-use borrow.Author.Needs.{needs}
 use Rattle.area.specs.Queue.{dequeued}
+use borrow.Author.Needs.{needs}
 use Rattle.area.proofs.queue.dequeue.Statement.{statement}
 use Rattle.area.proofs.queue.dequeue.Tie as tie
 

@@ -7,7 +7,7 @@ use Rattle.area.proofs.queue.ends_at.Tie as tie
 
 returns : tie.Need-returns
 unfolding endsOf
-returns c = (cc, omega arith, omega arith, omega arith, omega arith, omega arith)
+returns c = (cc, omega arith, omega arith, omega arith, omega arith)
 
 pub ends-at-spec : {M : Type 1} → statement M
 ends-at-spec =

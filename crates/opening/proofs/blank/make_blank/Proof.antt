@@ -10,11 +10,11 @@ use Rattle.opening.proofs.blank.make_blank.Tie as tie
 slice-write-area-2 : tie.Need-slice-write-area-2
 slice-write-area-2 c = simp length-set (omega arith)
 
-put-two-requires : tie.Need-put-two-requires
-put-two-requires c κs = simp length-set (omega arith)
+put-low-requires : tie.Need-put-low-requires
+put-low-requires c κs = simp length-set (omega arith)
 
 same-length : tie.Need-same-length
-same-length c = c .before .before .put-two .kept .0 ∙ simp length-set cc
+same-length c = c .before .before .put-low .kept .0 ∙ simp length-set cc
 
 returns : tie.Need-returns
 unfolding blank
@@ -23,4 +23,4 @@ returns c = cc
 pub make-blank-spec : {M : Type 1} → statement M
 make-blank-spec =
     tie.close
-    (tie.spec (λ c κs. search needs) (λ c κs. search needs) (λ c. search needs) slice-write-area-2 put-two-requires same-length returns)
+    (tie.spec (λ c κs. search needs) (λ c. search needs) slice-write-area-2 put-low-requires same-length returns)

@@ -20,8 +20,8 @@ loop-holds : tie.Need-loop-holds Inv-loop μ-loop
 unfolding withFullness
 loop-holds c = (refl, omega arith, refl)
 
-cast-put-two : tie.Need-cast-put-two Inv-loop μ-loop
-cast-put-two c = omega arith
+cast-put-low : tie.Need-cast-put-low Inv-loop μ-loop
+cast-put-low c = omega arith
 
 loop-again : tie.Need-loop-again Inv-loop μ-loop
 unfolding withFullness
@@ -33,5 +33,5 @@ returns c = let e = le-antisymm (c .before .loop .inv .1) (c .loop-test .left) i
 pub with-fullness-spec : {M : Type 1} → statement M
 with-fullness-spec =
     tie.close
-    (tie.spec Inv-loop μ-loop loop-holds (λ c. search needs) (λ c. search needs) (λ c κs. search needs) (λ c κs. search needs) cast-put-two
+    (tie.spec Inv-loop μ-loop loop-holds (λ c. search needs) (λ c. search needs) (λ c κs. search needs) (λ c κs. search needs) cast-put-low
     (λ c κs. search needs) (λ c. search needs) (λ c. search needs) loop-again (λ c. search needs) returns)

@@ -30,7 +30,7 @@ loop-again c =
     let c6 = c4 .before .before in
     let c8 = c6 .before .before in
     let l = c8 .loop .inv in
-    (rw add-one cc, omega arith, cc, start-next _ _ _ _ _ (l .0) (l .3) (rw (c6 .queue .ensures) at (c4 .two-at .ensures .0)), omega arith)
+    (rw add-one cc, omega arith, cc, start-next _ _ _ _ _ (l .0) (l .3) (rw (c6 .queue .ensures) at (c4 .low-at .ensures .0)), omega arith)
 
 returns : tie.Need-returns Inv-loop μ-loop
 returns c = let e = le-antisymm (c .before .loop .inv .1) (c .loop-test .left) in cc

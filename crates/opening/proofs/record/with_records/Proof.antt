@@ -1,5 +1,6 @@
--- `opening::record::with_records` meets its contract: at each record the rest of the records gives what the whole plan does.
-use mathlib.Core.Path.{_≡_, refl}
+-- `opening::record::with_records` meets its contract: at each record the rest of the records gives what the whole plan does, and what is
+-- passed over puts nothing into the area.
+use mathlib.Core.Path.{_≡_, refl, _∙_}
 use Prim.Native.Nat.{_≤_, _-_}
 use native.Mathlib.Omega.{arith}
 use lib.ListN.{length}
@@ -22,18 +23,23 @@ loop-holds : tie.Need-loop-holds Inv-loop μ-loop
 unfolding records
 loop-holds c = (refl, omega arith, refl)
 
+past-claims-requires : tie.Need-past-claims-requires Inv-loop μ-loop
+past-claims-requires c κs =
+    let c4 = c .before .before .before .before in
+    goes-on _ _ (c4 .read-record .ensures) (c4 .before .loop-test .taken) .1
+
 loop-less : tie.Need-loop-less Inv-loop μ-loop
 loop-less c =
-    let c4 = c .before .before .before .before in
-    omega (arith, goes-on _ _ (c4 .read-record .ensures) (c4 .before .loop-test .taken) .0)
+    let c5 = c .before .before .before .before .before in
+    omega (arith, goes-on _ _ (c5 .read-record .ensures) (c5 .before .loop-test .taken) .0, c .past-claims .ensures .onward)
 
 loop-again : tie.Need-loop-again Inv-loop μ-loop
 loop-again c =
-    let c4 = c .before .before .before .before in
-    let c5 = c4 .before in
-    let read = c4 .read-record .ensures in
-    let rest = turns _ _ _ _ _ _ (c5 .loop-test .taken) read (c .before .before .with-record .ensures) in
-    (rest (c5 .before .loop .inv .0), goes-on _ _ read (c5 .loop-test .taken) .1, cc)
+    let c5 = c .before .before .before .before .before in
+    let c6 = c5 .before in
+    let past = c .past-claims .ensures in
+    let rest = turns _ _ _ _ _ _ (c6 .loop-test .taken) (c5 .read-record .ensures) (c .before .before .before .with-record .ensures) in
+    (past .leaves _ ∙ rest (c6 .before .loop .inv .0), past .within, cc)
 
 returns : tie.Need-returns Inv-loop μ-loop
 returns c = ends _ _ _ _ (omega arith) (c .before .loop .inv .0)
@@ -41,4 +47,5 @@ returns c = ends _ _ _ _ (omega arith) (c .before .loop .inv .0)
 pub with-records-spec : {M : Type 1} → statement M
 with-records-spec =
     tie.close
-    (tie.spec Inv-loop μ-loop loop-holds (λ c κs. search needs) (λ c κs. search needs) loop-less loop-again (λ c. search needs) returns)
+    (tie.spec Inv-loop μ-loop loop-holds (λ c κs. search needs) (λ c κs. search needs) past-claims-requires loop-less loop-again (λ c. search needs)
+    returns)

@@ -22,5 +22,5 @@ returns c = cc
 pub with-rx-timer-spec : {M : Type 1} → statement M
 with-rx-timer-spec =
     tie.close
-    (tie.spec (λ c κs. search needs) (λ c κs. search needs) (λ c κs. search needs) (λ c κs. search needs) (λ c. search needs)
+    (tie.spec (λ c κs. search needs) (λ c κs. search needs) (λ c κs. search needs) (λ c κs. search needs) (λ c κs. search needs)
     (λ c. search needs) slice-write-area-2 slice-write-area-3 slice-write-area-4 (λ c. search needs) returns)

@@ -19,5 +19,5 @@ returns c = cc
 pub with-tx-timer-spec : {M : Type 1} → statement M
 with-tx-timer-spec =
     tie.close
-    (tie.spec (λ c κs. search needs) (λ c κs. search needs) (λ c κs. search needs) (λ c. search needs) (λ c. search needs)
+    (tie.spec (λ c κs. search needs) (λ c κs. search needs) (λ c κs. search needs) (λ c κs. search needs) (λ c. search needs)
     slice-write-area-2 slice-write-area-3 (λ c. search needs) returns)

@@ -10,22 +10,22 @@ use Rattle.reception.proofs.receive.deliver.Statement.{statement}
 use Rattle.reception.proofs.receive.deliver.Tie as tie
 
 returns : tie.Need-returns
-unfolding foundAnswer foundArea pick
+unfolding foundAnswer foundArea rxFrame pick
 returns c =
-    let v = c .before .before .before .before .before .before .args in
-    let size = c .before .wide .ensures .0 in
-    let frame = c .before .before .rx-frame .ensures in
-    let t = lt-ltb (length (now (v .payload))) (rxFrame (now (v .area)) (v .r .0) .size) (rw frame at (rw size at (c .if1 .taken))) in
+    let v = c .before .before .before .before .before .before .before .args in
+    let size = c .before .rx-size .ensures in
+    let place = c .before .before .before .rx-record-place .ensures .0 in
+    let t = lt-ltb (length (now (v .payload))) (rxFrame (now (v .area)) (v .r .0) .size) (rw place at (rw size at (c .if1 .taken))) in
     (rw t, rw t)
 
 returns-2 : tie.Need-returns-2
-unfolding foundAnswer foundArea pick
+unfolding foundAnswer foundArea rxFrame pick
 returns-2 c =
     let c4 = c .before .before .before .before in
-    let v = c4 .before .before .before .before .before .before .args in
-    let size = c4 .before .wide .ensures .0 in
-    let frame = c4 .before .before .rx-frame .ensures in
-    let t = le-ltb (length (now (v .payload))) (rxFrame (now (v .area)) (v .r .0) .size) (rw frame at (rw size at (c4 .if1 .left))) in
+    let v = c4 .before .before .before .before .before .before .before .args in
+    let size = c4 .before .rx-size .ensures in
+    let place = c4 .before .before .before .rx-record-place .ensures .0 in
+    let t = le-ltb (length (now (v .payload))) (rxFrame (now (v .area)) (v .r .0) .size) (rw place at (rw size at (c4 .if1 .left))) in
     (rw t, rw t (c .before .before .accept .ensures))
 
 pub deliver-spec : {M : Type 1} → statement M

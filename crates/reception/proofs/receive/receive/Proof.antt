@@ -1,8 +1,8 @@
 -- `receive::receive` meets its contract: each answer by what decided it.
 use mathlib.Core.Path.{refl, sym, _∙_}
-use native.Mathlib.Omega.{arith}
-use borrow.Author.Tests.{not-true, not-false}
+use borrow.Author.Tests.{ltb-true, ltb-false, not-true, not-false}
 use denote.Ref.{now}
+use Rattle.area.specs.Layout.{nodeCount}
 use Rattle.reception.specs.declared.lookup.Found.the-variants.{Nothing}
 use Rattle.reception.specs.Reception.{foundAnswer, foundArea}
 use Rattle.reception.proofs.Outcomes.{not-open, no-node, long-payload, goes-on}
@@ -16,8 +16,8 @@ returns c =
     let v = c5 .args in
     not-open (now (v .area)) (v .node) (v .id) (now (v .payload)) (sym (c .before .is-marked .ensures .0) ∙ not-true _ (c .if1 .taken))
 
-node-count-requires : tie.Need-node-count-requires
-node-count-requires c κs = c .before .before .is-marked .ensures .1 (not-false _ (c .before .if1 .left))
+has-node-requires : tie.Need-has-node-requires
+has-node-requires c κs = c .before .before .is-marked .ensures .1 (not-false _ (c .before .if1 .left))
 
 returns-2 : tie.Need-returns-2
 returns-2 c =
@@ -26,7 +26,7 @@ returns-2 c =
     let c8 = c4 .before .before .before .before in
     let v = c8 .args in
     no-node (now (v .area)) (v .node) (v .id) (now (v .payload)) (sym (c4 .is-marked .ensures .0) ∙ not-false _ (c3 .if1 .left))
-    (rw (c .before .node-count .ensures .0) at (c .if2 .taken))
+    (ltb-false (v .node) (nodeCount (now (v .area))) (sym (c .before .has-node .ensures .0) ∙ not-true _ (c .if2 .taken)))
 
 returns-3 : tie.Need-returns-3
 returns-3 c =
@@ -35,13 +35,13 @@ returns-3 c =
     let c9 = c5 .before .before .before .before in
     let v = c9 .args in
     long-payload (now (v .area)) (v .node) (v .id) (now (v .payload)) (sym (c5 .is-marked .ensures .0) ∙ not-false _ (c4 .if1 .left))
-    (rw (c .before .before .node-count .ensures .0) at (c .before .if2 .left)) (c .if3 .taken)
+    (ltb-true (v .node) (nodeCount (now (v .area))) (sym (c .before .before .has-node .ensures .0) ∙ not-false _ (c .before .if2 .left))) (c .if3 .taken)
 
 look-up-requires : tie.Need-look-up-requires
 look-up-requires c κs =
     let c5 = c .before .before .before .before .before in
     let c6 = c5 .before in
-    (omega arith, c6 .is-marked .ensures .1 (not-false _ (c5 .if1 .left)))
+    (c .before .before .before .has-node .ensures .1 (not-false _ (c .before .before .if2 .left)), c6 .is-marked .ensures .1 (not-false _ (c5 .if1 .left)))
 
 returns-4 : tie.Need-returns-4
 unfolding foundAnswer foundArea
@@ -54,7 +54,7 @@ returns-4 c =
     let c13 = c9 .before .before .before .before in
     let v = c13 .args in
     goes-on (now (v .area)) (v .node) (v .id) (now (v .payload)) (sym (c9 .is-marked .ensures .0) ∙ not-false _ (c8 .if1 .left))
-    (rw (c6 .node-count .ensures .0) at (c5 .if2 .left)) Nothing _ _ (c4 .if3 .left)
+    (ltb-true (v .node) (nodeCount (now (v .area))) (sym (c6 .has-node .ensures .0) ∙ not-false _ (c5 .if2 .left))) Nothing _ _ (c4 .if3 .left)
     (sym (c .enum-told .given .1) ∙ c .before .before .look-up .ensures .0) refl refl
 
 deliver-requires : tie.Need-deliver-requires
@@ -79,12 +79,12 @@ returns-5 c =
     let v = c18 .args in
     let given = c .before .before .deliver .ensures in
     goes-on (now (v .area)) (v .node) (v .id) (now (v .payload)) (sym (c14 .is-marked .ensures .0) ∙ not-false _ (c13 .if1 .left))
-    (rw (c11 .node-count .ensures .0) at (c10 .if2 .left)) _ _ _ (c9 .if3 .left)
+    (ltb-true (v .node) (nodeCount (now (v .area))) (sym (c11 .has-node .ensures .0) ∙ not-false _ (c10 .if2 .left))) _ _ _ (c9 .if3 .left)
     (sym (c5 .r .given .1) ∙ c7 .look-up .ensures .0) (given .0) (given .1)
 
 pub receive-spec : {M : Type 1} → statement M
 receive-spec =
     tie.close
-    (tie.spec (λ c κs. search needs) (λ c. search needs) returns node-count-requires (λ c. search needs) returns-2 (λ c. search needs)
+    (tie.spec (λ c κs. search needs) (λ c. search needs) returns has-node-requires (λ c. search needs) returns-2 (λ c. search needs)
     returns-3 look-up-requires (λ c. search needs) (λ c. search needs) (λ c. search needs) returns-4 deliver-requires (λ c. search needs)
     returns-5)

@@ -1,4 +1,4 @@
--- `receive::restart` meets its contract: the count becomes the reload value.
+-- `receive::restart` meets its contract: the timer takes its reload value.
 use Rattle.reception.specs.Reception.{restarted}
 use borrow.Author.Needs.{needs}
 use Rattle.reception.proofs.receive.restart.Statement.{statement}
@@ -11,4 +11,4 @@ returns c = cc
 pub restart-spec : {M : Type 1} → statement M
 restart-spec =
     tie.close
-    (tie.spec (λ c κs. search needs) (λ c. search needs) (λ c. search needs) (λ c. search needs) (λ c. search needs) returns)
+    (tie.spec (λ c κs. search needs) (λ c κs. search needs) (λ c. search needs) (λ c. search needs) (λ c. search needs) returns)

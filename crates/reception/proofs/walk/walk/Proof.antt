@@ -1,143 +1,172 @@
 -- `walk::walk` meets its contract. The loop's invariant: the rest of the walk gives what the whole gives, and the area has kept the plan.
--- The measure is what is left of the plan.
+-- The measure is what is left of the part that holds the plan.
 use mathlib.Core.Path.{_≡_, refl, sym, _∙_}
-use Prim.Native.Nat.{_-_, _<_}
+use Prim.Native.Nat.{_-_, _≤_, _<_}
 use native.Mathlib.Omega.{arith}
 use denote.Ref.{now}
 use borrow.Author.Needs.{needs}
-use Rattle.base.specs.Pick.{pick}
-use Rattle.records.proofs.RecordLaws.{step-found, step-next, goes-on}
-use Rattle.area.specs.Layout.{planOf}
-use Rattle.area.proofs.Kept.{Kept, kept-refl, kept-then}
-use Rattle.reception.specs.Walk.{waitOf, walked}
-use Rattle.reception.proofs.WalkLaws.{kept-put, walk-end, walk-signal, walk-destination, walk-stop, plan-length, met-kept}
+use Rattle.area.specs.Layout.{planRoom, stored}
+use Rattle.area.specs.Claims.{accepted}
+use Rattle.area.proofs.StoredLaws.{stored-length}
+use Rattle.area.proofs.Kept.{Kept, kept-refl, kept-then, kept-done, stored-kept}
+use Rattle.area.proofs.ClaimLaws.{narrow-copy}
+use Rattle.reception.specs.Walk.{walked}
+use Rattle.reception.proofs.WalkLaws.{walk-end, walk-signal, walk-destination, walk-stop}
 use Rattle.reception.proofs.walk.walk.Statement.{statement}
 use Rattle.reception.proofs.walk.walk.Tie as tie
 
 abbrev Inv-loop : tie.InvT-loop
-Inv-loop order source awaits position area₀ from n k₀ p₀ s₀ waits₀ area k p s waits =
-    Kept area₀ area × (p < 256) × (s < 256)
-    × (walked order source (waitOf waits position) p s (planOf area₀) k area ≡ walked order source (waitOf awaits position) 0 0 (planOf area₀) from area₀)
+Inv-loop order source area₀ from at₀ p₀ s₀ area at p s =
+    Kept area₀ area × (p < 256) × (s < 256) × (at ≤ planRoom)
+    × (walked order source p s (stored area₀) at area ≡ walked order source 0 0 (stored area₀) from area₀)
 
 abbrev μ-loop : tie.MeasureT-loop
-μ-loop order source awaits position area₀ from n k₀ p₀ s₀ waits₀ area k p s waits = n - k
+μ-loop order source area₀ from at₀ p₀ s₀ area at p s = planRoom - at
 
 loop-holds : tie.Need-loop-holds Inv-loop μ-loop
-loop-holds c = (kept-refl _, omega arith, omega arith, refl)
+loop-holds c = (kept-refl _, omega arith, omega arith, omega arith, refl)
 
-step-of-requires : tie.Need-step-of-requires Inv-loop μ-loop
-step-of-requires c κs = omega (arith, c .before .before .loop .inv .0 .len)
+add-loop : tie.Need-add-loop Inv-loop μ-loop
+add-loop c = omega (arith, c .loop .inv .3)
+
+plan-byte-requires : tie.Need-plan-byte-requires Inv-loop μ-loop
+plan-byte-requires c κs = (omega (arith, c .before .loop-test .taken), omega (arith, c .before .before .loop .inv .0 .len))
+
+add-plan-byte : tie.Need-add-plan-byte Inv-loop μ-loop
+add-plan-byte c = let c4 = c .before .before .before .before in omega (arith, c4 .loop-test .taken)
+
+plan-byte-requires-2 : tie.Need-plan-byte-requires-2 Inv-loop μ-loop
+plan-byte-requires-2 c κs = let c4 = c .before .before .before .before in (omega (arith, c4 .loop-test .taken), omega (arith, c4 .before .loop .inv .0 .len))
+
+add-plan-byte-2 : tie.Need-add-plan-byte-2 Inv-loop μ-loop
+add-plan-byte-2 c = let c7 = c .before .before .before .before .before .before .before in omega (arith, c7 .loop-test .taken)
+
+plan-byte-requires-3 : tie.Need-plan-byte-requires-3 Inv-loop μ-loop
+plan-byte-requires-3 c κs =
+    let c7 = c .before .before .before .before .before .before .before in
+    (omega (arith, c7 .loop-test .taken), omega (arith, c7 .before .loop .inv .0 .len))
+
+copy-claim-requires : tie.Need-copy-claim-requires Inv-loop μ-loop
+copy-claim-requires c κs =
+    let c4 = c .before .before .before .before in
+    let c11 = c4 .before .before .before .before .before .before .before in
+    let c14 = c11 .before .before .before in
+    let l = c11 .loop in
+    (c14 .pre .0, l .inv .1, l .inv .2, c4 .wide .ensures .1, c .before .wide2 .ensures .1, omega (arith, l .inv .0 .len, c14 .pre .2))
+
+add-at : tie.Need-add-at Inv-loop μ-loop
+add-at c =
+    let c13 = c .before .before .before .before .before .before .before .before .before .before .before .before .before in
+    omega (arith, c13 .loop-test .taken)
 
 loop-less : tie.Need-loop-less Inv-loop μ-loop
 loop-less c =
-    let c5 = c .before .before .before .before .before in
-    let c7 = c5 .before .before in
-    let c8 = c7 .before in
-    let c9 = c8 .before in
-    let c13 = c9 .before .before .before .before in
-    let l = c8 .loop in
-    let whole = c9 .plan-length .ensures .0 ∙ sym (plan-length (now (c13 .args .area)) (c13 .pre .2)) in
-    omega (arith, goes-on _ _ (met-kept (l .inv .0) (l .k) (c5 .step-of .ensures)) (rw whole at (c7 .loop-test .taken)) .0)
+    let c13 = c .before .before .before .before .before .before .before .before .before .before .before .before .before in
+    omega (arith, c13 .loop-test .taken)
 
 loop-again : tie.Need-loop-again Inv-loop μ-loop
 loop-again c =
-    let c3 = c .before .before .before in
-    let c5 = c3 .before .before in
-    let c7 = c5 .before .before in
-    let c8 = c7 .before in
-    let c9 = c8 .before in
-    let c13 = c9 .before .before .before .before in
-    let v = c13 .args in
-    let l = c8 .loop in
-    let whole = c9 .plan-length .ensures .0 ∙ sym (plan-length (now (v .area)) (c13 .pre .2)) in
-    let inside = rw whole at (c7 .loop-test .taken) in
-    let step = met-kept (l .inv .0) (l .k) (c5 .step-of .ensures) in (
-      l .inv .0,
-      c .before .wide .ensures .1,
-      c .wide2 .ensures .1,
-      rw (c .before .wide .ensures .0, c .wide2 .ensures .0, step-next _ _ step)
-          (sym (walk-signal (planOf (now (v .area))) (l .k) (v .order) (now (v .source)) (waitOf (l .waits) (v .position)) (l .p) (l .s) (l .area)
-          inside _ (sym (c3 .met .given .1) ∙ step-found _ _ step)) ∙ l .inv .3),
-    )
-
-put-one-requires : tie.Need-put-one-requires Inv-loop μ-loop
-put-one-requires c κs =
-    let c9 = c .before .before .before .before .before .before .before .before .before in
-    omega (arith, c9 .loop .inv .0 .len)
-
-loop-less-2 : tie.Need-loop-less-2 Inv-loop μ-loop
-loop-less-2 c =
-    let c9 = c .before .before .before .before .before .before .before .before .before in
-    let c11 = c9 .before .before in
-    let c12 = c11 .before in
-    let c13 = c12 .before in
-    let c17 = c13 .before .before .before .before in
-    let l = c12 .loop in
-    let whole = c13 .plan-length .ensures .0 ∙ sym (plan-length (now (c17 .args .area)) (c17 .pre .2)) in
-    omega (arith, goes-on _ _ (met-kept (l .inv .0) (l .k) (c9 .step-of .ensures)) (rw whole at (c11 .loop-test .taken)) .0)
-
-loop-again-2 : tie.Need-loop-again-2 Inv-loop μ-loop
-unfolding waitOf pick
-loop-again-2 c =
-    let c3 = c .before .before .before in
-    let c7 = c3 .before .before .before .before in
-    let c9 = c7 .before .before in
-    let c11 = c9 .before .before in
-    let c12 = c11 .before in
-    let c13 = c12 .before in
-    let c17 = c13 .before .before .before .before in
+    let c4 = c .before .before .before .before in
+    let c7 = c4 .before .before .before in
+    let c10 = c7 .before .before .before in
+    let c13 = c10 .before .before .before in
+    let c14 = c13 .before in
+    let c17 = c14 .before .before .before in
     let v = c17 .args in
-    let l = c12 .loop in
-    let whole = c13 .plan-length .ensures .0 ∙ sym (plan-length (now (v .area)) (c17 .pre .2)) in
-    let inside = rw whole at (c11 .loop-test .taken) in
-    let step = met-kept (l .inv .0) (l .k) (c9 .step-of .ensures) in
-    let q = c3 .wide3 in
-    let put = c .before .before .put-one .ensures in
-    let kept =
-    kept-put (v .order) (now (v .source)) (v .position) (l .p) (l .s) (l .area) _ (q .result) (l .waits) (search needs) (l .inv .2)
-    (q .ensures .1) in (
+    let l = c14 .loop in
+    let same = stored-kept (l .inv .0) in
+    let size = stored-length (now (v .area)) (c17 .pre .2) in
+    let kind = sym (rw same at (c10 .before .plan-byte .ensures)) ∙ c10 .if1 .taken in
+    let t = c7 .wide in
+    let q = c4 .wide2 in
+    let low = t .ensures .0 ∙ (rw same at (c7 .before .plan-byte2 .ensures)) in
+    let place = q .ensures .0 ∙ (rw same at (c4 .before .plan-byte3 .ensures)) in
+    let put = c .before .before .copy-claim .ensures in
+    let narrow = narrow-copy 0 (t .result) (q .result) (q .ensures .1) (l .p) (l .s) (omega (arith, l .inv .2)) in
+    let kept = kept-done (v .order) (accepted 0 (now (v .source))) (l .area) _ narrow in (
       rw put (kept-then (l .inv .0) kept),
       l .inv .1,
       l .inv .2,
-      rw (put, q .ensures .0, step-next _ _ step)
-          (sym (walk-destination (planOf (now (v .area))) (l .k) (v .order) (now (v .source)) (waitOf (l .waits) (v .position)) (l .p) (l .s)
-          (l .area) inside _ (sym (c7 .met2 .given .1) ∙ step-found _ _ step)) ∙ l .inv .3),
+      omega (arith, c13 .loop-test .taken),
+      rw (put, place)
+          (sym (walk-destination (v .order) (now (v .source)) (l .p) (l .s) (stored (now (v .area))) (l .at) (l .area) (t .result) (t .ensures .1) low
+          (omega (arith, size, c13 .loop-test .taken)) kind) ∙ l .inv .4),
     )
 
 same-length : tie.Need-same-length Inv-loop μ-loop
-same-length c =
-    let c4 = c .before .before .before .before in
-    c4 .loop .inv .0 .len
+same-length c = let c5 = c .before .before .before .before .before in c5 .loop .inv .0 .len
 
 returns : tie.Need-returns Inv-loop μ-loop
 returns c =
+    let c5 = c .before .before .before .before .before in
+    let v = c5 .before .before .before .args in
+    let l = c5 .loop in
+    let read = rw (stored-kept (l .inv .0)) at (c .before .before .plan-byte .ensures) in
+    sym (walk-stop (v .order) (now (v .source)) (l .p) (l .s) (stored (now (v .area))) (l .at) (l .area)
+    (λ e. c .if2 .taken (read ∙ e)) (λ e. c .before .if1 .left (read ∙ e))) ∙ l .inv .4
+
+add-plan-byte-3 : tie.Need-add-plan-byte-3 Inv-loop μ-loop
+add-plan-byte-3 c = let c5 = c .before .before .before .before .before in omega (arith, c5 .loop-test .taken)
+
+plan-byte-requires-4 : tie.Need-plan-byte-requires-4 Inv-loop μ-loop
+plan-byte-requires-4 c κs =
+    let c5 = c .before .before .before .before .before in
+    (omega (arith, c5 .loop-test .taken), omega (arith, c5 .before .loop .inv .0 .len))
+
+add-plan-byte-4 : tie.Need-add-plan-byte-4 Inv-loop μ-loop
+add-plan-byte-4 c = let c8 = c .before .before .before .before .before .before .before .before in omega (arith, c8 .loop-test .taken)
+
+plan-byte-requires-5 : tie.Need-plan-byte-requires-5 Inv-loop μ-loop
+plan-byte-requires-5 c κs =
+    let c8 = c .before .before .before .before .before .before .before .before in
+    (omega (arith, c8 .loop-test .taken), omega (arith, c8 .before .loop .inv .0 .len))
+
+add-at-2 : tie.Need-add-at-2 Inv-loop μ-loop
+add-at-2 c = let c10 = c .before .before .before .before .before .before .before .before .before .before in omega (arith, c10 .loop-test .taken)
+
+loop-less-2 : tie.Need-loop-less-2 Inv-loop μ-loop
+loop-less-2 c = let c10 = c .before .before .before .before .before .before .before .before .before .before in omega (arith, c10 .loop-test .taken)
+
+loop-again-2 : tie.Need-loop-again-2 Inv-loop μ-loop
+loop-again-2 c =
     let c3 = c .before .before .before in
-    let c4 = c3 .before in
-    let c5 = c4 .before in
-    let c9 = c5 .before .before .before .before in
-    let v = c9 .args in
-    let l = c4 .loop in
-    let whole = c5 .plan-length .ensures .0 ∙ sym (plan-length (now (v .area)) (c9 .pre .2)) in
-    let inside = rw whole at (c3 .loop-test .taken) in
-    let met = step-found _ _ (met-kept (l .inv .0) (l .k) (c .before .step-of .ensures)) in
-    sym (walk-stop (planOf (now (v .area))) (l .k) (v .order) (now (v .source)) (waitOf (l .waits) (v .position)) (l .p) (l .s) (l .area)
-    inside _ met (c .match .keys3)) ∙ l .inv .3
+    let c6 = c3 .before .before .before in
+    let c8 = c6 .before .before in
+    let c10 = c8 .before .before in
+    let c11 = c10 .before in
+    let c14 = c11 .before .before .before in
+    let v = c14 .args in
+    let l = c11 .loop in
+    let same = stored-kept (l .inv .0) in
+    let size = stored-length (now (v .area)) (c14 .pre .2) in
+    let kind = sym (rw same at (c8 .plan-byte .ensures)) ∙ c6 .if2 .left in
+    let position = c3 .wide3 .ensures .0 ∙ (rw same at (c3 .before .plan-byte4 .ensures)) in
+    let width = c .wide4 .ensures .0 ∙ (rw same at (c .before .plan-byte5 .ensures)) in (
+      l .inv .0,
+      c3 .wide3 .ensures .1,
+      c .wide4 .ensures .1,
+      omega (arith, c10 .loop-test .taken),
+      rw (position, width)
+          (sym (walk-signal (v .order) (now (v .source)) (l .p) (l .s) (stored (now (v .area))) (l .at) (l .area)
+          (omega (arith, size, c10 .loop-test .taken)) kind) ∙ l .inv .4),
+    )
 
 same-length-2 : tie.Need-same-length-2 Inv-loop μ-loop
 same-length-2 c = c .before .loop .inv .0 .len
 
 returns-2 : tie.Need-returns-2 Inv-loop μ-loop
 returns-2 c =
-    let c6 = c .before .before .before .before .before .before in
-    let v = c6 .args in
+    let c4 = c .before .before .before .before in
+    let v = c4 .args in
     let l = c .before .loop in
-    let whole = c .before .before .plan-length .ensures .0 ∙ sym (plan-length (now (v .area)) (c6 .pre .2)) in
-    sym (walk-end (planOf (now (v .area))) (l .k) (v .order) (now (v .source)) (waitOf (l .waits) (v .position)) (l .p) (l .s) (l .area)
-    (rw whole at (c .loop-test .left))) ∙ l .inv .3
+    let size = stored-length (now (v .area)) (c4 .pre .2) in
+    sym (walk-end (v .order) (now (v .source)) (l .p) (l .s) (stored (now (v .area))) (l .at) (l .area)
+    (omega (arith, size, c .loop-test .left))) ∙ l .inv .4
 
 pub walk-spec : {M : Type 1} → statement M
 walk-spec =
     tie.close
-    (tie.spec Inv-loop μ-loop (λ c κs. search needs) loop-holds step-of-requires (λ c. search needs) (λ c κs. search needs)
-    (λ c κs. search needs) loop-less loop-again (λ c. search needs) (λ c κs. search needs) put-one-requires loop-less-2 loop-again-2 same-length
-    returns same-length-2 returns-2)
+    (tie.spec Inv-loop μ-loop loop-holds add-loop plan-byte-requires add-plan-byte plan-byte-requires-2 (λ c κs. search needs) add-plan-byte-2
+    plan-byte-requires-3 (λ c κs. search needs) copy-claim-requires add-at loop-less loop-again same-length returns add-plan-byte-3
+    plan-byte-requires-4 (λ c κs. search needs) add-plan-byte-4 plan-byte-requires-5 (λ c κs. search needs) add-at-2 loop-less-2 loop-again-2
+    same-length-2 returns-2)

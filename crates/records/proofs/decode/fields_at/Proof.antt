@@ -40,29 +40,19 @@ returns-4 : tie.Need-returns-4
 unfolding formOf fieldsAt pick
 returns-4 c = rw (c .before .if4 .taken, c .rx-at .ensures)
 
-shared-slice-read-t16 : tie.Need-shared-slice-read-t16
+signal-at-requires : tie.Need-signal-at-requires
 unfolding formOf lengthOf pick
-shared-slice-read-t16 c = omega (arith, ap lengthOf (c .before .if5 .taken))
-
-shared-slice-read-t19 : tie.Need-shared-slice-read-t19
-unfolding formOf lengthOf pick
-shared-slice-read-t19 c = omega (arith, ap lengthOf (c .before .before .if5 .taken))
+signal-at-requires c κs = omega (arith, ap lengthOf (c .if5 .taken))
 
 returns-5 : tie.Need-returns-5
-unfolding formOf fieldsAt pick
-returns-5 c = rw (c .before .before .if5 .taken)
+returns-5 c = rw (c .before .if5 .taken) (c .signal-at .ensures)
 
-two-at-requires : tie.Need-two-at-requires
+destination-at-requires : tie.Need-destination-at-requires
 unfolding formOf lengthOf pick
-two-at-requires c κs = omega (arith, ap lengthOf (c .if6 .taken))
-
-shared-slice-read-t26 : tie.Need-shared-slice-read-t26
-unfolding formOf lengthOf pick
-shared-slice-read-t26 c = omega (arith, ap lengthOf (c .before .before .if6 .taken))
+destination-at-requires c κs = omega (arith, ap lengthOf (c .if6 .taken))
 
 returns-6 : tie.Need-returns-6
-unfolding formOf fieldsAt pick
-returns-6 c = rw (c .before .before .if6 .taken, c .before .two-at .ensures .0)
+returns-6 c = rw (c .before .if6 .taken) (c .destination-at .ensures)
 
 returns-7 : tie.Need-returns-7
 returns-7 c = no-fields _ (λ e. omega arith) (λ e. omega arith) (λ e. omega arith) (λ e. omega arith) (λ e. omega arith) (λ e. omega arith) _ _
@@ -71,5 +61,5 @@ pub fields-at-spec : {M : Type 1} → statement M
 fields-at-spec =
     tie.close
     (tie.spec (λ c. search needs) shared-slice-read-t7 returns (λ c. search needs)
-    shared-slice-read-t10 returns-2 tx-at-requires returns-3 rx-at-requires returns-4 (λ c. search needs) shared-slice-read-t16 (λ c. search needs)
-    shared-slice-read-t19 returns-5 (λ c. search needs) two-at-requires (λ c. search needs) shared-slice-read-t26 returns-6 returns-7)
+    shared-slice-read-t10 returns-2 tx-at-requires returns-3 rx-at-requires returns-4 signal-at-requires returns-5
+    destination-at-requires returns-6 returns-7)

@@ -1,53 +1,31 @@
--- `ticking::tx::tx_tick` meets its contract: by the mask, and by whether the timer expired.
+-- `ticking::tx::tx_tick` meets its contract: by the mask.
+use mathlib.Core.Path.{sym, _∙_}
 use Rattle.base.specs.Pick.{pick}
-use Rattle.ticking.specs.Tick.{txTick}
+use Rattle.base.proofs.Picks.{picks}
+use Rattle.ticking.specs.Tick.{timed, txTick}
+use Rattle.ticking.specs.Sixteen.{txStep}
 use borrow.Author.Needs.{needs}
 use Rattle.ticking.proofs.tx.tx_tick.Statement.{statement}
 use Rattle.ticking.proofs.tx.tx_tick.Tie as tie
 
 returns : tie.Need-returns
-unfolding txTick pick
+unfolding txTick timed txStep
 returns c =
-    let c4 = c .before .before .before .before in
-    let c7 = c4 .before .before .before in
-    let c8 = c7 .before in
-    let c10 = c8 .before .before in
-    let c11 = c10 .before in
-    let c13 = c11 .before .before in
-    simp (
-      ← (c13 .tx-mask .ensures),
-      ← (c11 .no-common-bit .ensures),
-      c10 .if1 .taken,
-      ← (c8 .tx-timer .ensures),
-      ← (c7 .time .ensures .0),
-      c4 .if2 .taken,
-    ) cc
+    let c2 = c .before .before in
+    let c5 = c2 .before .before .before in
+    let c7 = c5 .before .before in
+    let c9 = c7 .before .before in
+    let on = sym (rw (c9 .tx-mask .ensures) at (c7 .no-common-bit .ensures)) ∙ c5 .before .if1 .taken in
+    rw (c5 .tx-timer .ensures) at (c2 .tx-step .ensures) ∙ sym (picks _ _ _ on)
 
 returns-2 : tie.Need-returns-2
 unfolding txTick pick
 returns-2 c =
-    let c3 = c .before .before .before in
-    let c4 = c3 .before in
-    let c6 = c4 .before .before in
-    let c7 = c6 .before in
-    let c9 = c7 .before .before in
-    simp (
-      ← (c9 .tx-mask .ensures),
-      ← (c7 .no-common-bit .ensures),
-      c6 .if1 .taken,
-      ← (c4 .tx-timer .ensures),
-      ← (c3 .time .ensures .0),
-      c .if2 .left,
-    ) cc
-
-returns-3 : tie.Need-returns-3
-unfolding txTick pick
-returns-3 c =
     let c3 = c .before .before .before in
     simp (← (c3 .tx-mask .ensures), ← (c .before .no-common-bit .ensures), c .if1 .left)
 
 pub tx-tick-spec : {M : Type 1} → statement M
 tx-tick-spec =
     tie.close
-    (tie.spec (λ c κs. search needs) (λ c. search needs) (λ c κs. search needs) (λ c κs. search needs) (λ c κs. search needs)
-    (λ c κs. search needs) (λ c. search needs) returns (λ c. search needs) returns-2 returns-3)
+    (tie.spec (λ c κs. search needs) (λ c. search needs) (λ c κs. search needs) (λ c κs. search needs) (λ c. search needs) (λ c κs. search needs)
+    (λ c. search needs) returns returns-2)

@@ -94,7 +94,8 @@ uint64_t gateway_take(uint8_t *area, size_t area_length, size_t node);
 
 /*
  * Where in the area the payload of a frame that was taken stands, and its size; `taken` is the word of the take. The bytes are those that a
- * reception or a tick last left there: read them before the next call. Where nothing was taken the size is 0. Never refused.
+ * reception or a tick last left there: read them before the next call. Where nothing was taken the size is 0. A plan's sizes are at most 8; in an
+ * area that others wrote into a size can be up to 15. Never refused.
  */
 uint64_t gateway_payload(const uint8_t *area, size_t area_length, uint64_t taken);
 

@@ -114,7 +114,7 @@ static void send(uint8_t node)
             return; /* none waits, or the take was refused */
         uint64_t part = gateway_payload(area, sizeof area, taken);
         struct frame frame = { gateway_frame_id(taken), node, (uint8_t)gateway_frame_size(taken), { 0 } };
-        for (size_t i = 0; i < gateway_payload_size(part); i++)
+        for (size_t i = 0; i < gateway_payload_size(part) && i < sizeof frame.data; i++)
             frame.data[i] = area[gateway_payload_place(part) + i]; /* before the next call */
         can_send(&frame);
     }

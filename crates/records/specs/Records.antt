@@ -1,4 +1,4 @@
--- The plan: its records, one after the other. Nothing but this file and `Kinds` looks at a plan's bytes.
+-- The plan: its records, one after the other. This file and `Kinds` say what a plan's bytes mean.
 use Prim.Native.Nat.{ℕ, zero, suc, _+_, _-_}
 use mathlib.Core.List.{List, [], _∷_}
 use lib.ListN.{length}

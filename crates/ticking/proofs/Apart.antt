@@ -56,9 +56,13 @@ module _ (p v : ℕ) (l : txTimersStart ≤ p) (m : p < longStart) where
         two-apart (queue n + 6) (λ e. omega arith) (λ e. omega arith),
       )
 
-  pub scheduled-apart : (a : List ℕ) (t : ℕ) → t < 256 → p ≢ txTimer t → scheduled (set a p v) t ≡ set (scheduled a t) p v
+  -- where the store and the reload of the frame's timer may change places, the store and the scheduling may
+  scheduled-either :
+      (a : List ℕ) (t : ℕ) → t < 256
+      → ((b : List ℕ) → set (set b p v) (txTimer t) (byteAt a (txReload t)) ≡ set (set b (txTimer t) (byteAt a (txReload t))) p v)
+      → scheduled (set a p v) t ≡ set (scheduled a t) p v
   unfolding scheduled
-  scheduled-apart a t h d =
+  scheduled-either a t h swap =
       let n = txFrame a t .node % 16 in
       rw (
         other a (waits t) (λ e. omega arith),
@@ -66,23 +70,11 @@ module _ (p v : ℕ) (l : txTimersStart ≤ p) (m : p < longStart) where
         txFrame-kept (kept-timer a) t h,
         queued-apart a n t (omega arith),
         set-comm (queued a n t) p (waits t) v 1 (λ e. omega arith),
-        set-comm (set (queued a n t) (waits t) 1) p (txTimer t) v (byteAt a (txReload t)) d,
+        swap (set (queued a n t) (waits t) 1),
       ) (sym (into (λ (x : List ℕ). set x p v) _ _ _))
 
-  -- at the frame's own timer, what is stored there is its reload value in any case
-  scheduled-own : (a : List ℕ) (t : ℕ) → t < 256 → p ≡ txTimer t → v ≡ byteAt a (txReload t) → scheduled (set a p v) t ≡ set (scheduled a t) p v
-  unfolding scheduled
-  scheduled-own a t h e w =
-      let n = txFrame a t .node % 16 in
-      rw (
-        other a (waits t) (λ e. omega arith),
-        other a (txReload t) (λ e. omega arith),
-        txFrame-kept (kept-timer a) t h,
-        queued-apart a n t (omega arith),
-        set-comm (queued a n t) p (waits t) v 1 (λ e. omega arith),
-        ← e,
-        ← w,
-      ) (sym (into (λ (x : List ℕ). set x p v) _ _ _))
+  pub scheduled-apart : (a : List ℕ) (t : ℕ) → t < 256 → p ≢ txTimer t → scheduled (set a p v) t ≡ set (scheduled a t) p v
+  scheduled-apart a t h d = scheduled-either a t h (λ b. set-comm b p (txTimer t) v (byteAt a (txReload t)) d)
 
   -- ---- the expiry of an Rx timer
 
@@ -123,4 +115,4 @@ module _ (p v : ℕ) (l : txTimersStart ≤ p) (m : p < longStart) where
 pub scheduled-stored :
     (a : List ℕ) (t : ℕ) → t < 256
     → set (scheduled a t) (txTimer t) (byteAt a (txReload t)) ≡ scheduled (set a (txTimer t) (byteAt a (txReload t))) t
-scheduled-stored a t h = sym (scheduled-own (txTimer t) (byteAt a (txReload t)) (omega arith) (omega arith) a t h refl refl)
+scheduled-stored a t h = sym (scheduled-either (txTimer t) (byteAt a (txReload t)) (omega arith) (omega arith) a t h (λ b. refl))

@@ -30,7 +30,7 @@ const SOURCES: [&str; 10] = [
 
 /// Copies the second program to a folder of its own.
 fn copy_second(name: &str) -> PathBuf {
-    let from = Path::new(env!("CARGO_MANIFEST_DIR")).join("../second");
+    let from = Path::new(env!("CARGO_MANIFEST_DIR")).join("../program");
     let to = Path::new(env!("CARGO_TARGET_TMPDIR")).join(name);
     fs::create_dir_all(to.join("src")).expect("a folder for the copy");
     for file in SOURCES {

@@ -74,7 +74,7 @@ static void take_all_uncounted(struct run *run)
 
 static void begin_reception(struct run *run, const struct setting *s)
 {
-    plan_reception(&plan, s->order, s->rows, s->signals, s->bits, s->destinations);
+    plan_reception(&plan, s->order, s->rows, s->signals, s->bits, s->destinations, s->edge);
     open(run);
 }
 

@@ -17,7 +17,7 @@ struct run {
 
 // What a case depends on; each uses what it needs.
 struct setting {
-    int order, rows, signals, bits, destinations;
+    int order, rows, signals, bits, destinations, edge;
     int timers, prescaler, waiting;
 };
 

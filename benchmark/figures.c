@@ -81,12 +81,30 @@ static void all_receptions(void)
         {"4 × 12 bits, 2 destinations", {.signals = 4, .bits = 12, .destinations = 2}},
         {"4 × 64 bits, 1 destination", {.signals = 4, .bits = 64, .destinations = 1}},
         {"4 × 64 bits, 2 destinations", {.signals = 4, .bits = 64, .destinations = 2}},
-        {"1 × 12 bits, little order, 1 destination", {.order = 1, .signals = 1, .bits = 12, .destinations = 1}},
     };
     receptions("no such ID", &stranger_case, (struct setting){0});
     receptions("no signal", &lookup_case, (struct setting){0});
     for (size_t i = 0; i < sizeof copied / sizeof *copied; i++)
         receptions(copied[i].row, &reception_case, copied[i].setting);
+}
+
+// What a signal and a destination take, on a node with one row.
+static void copies(const char *row, int bits, int edge)
+{
+    static const char *const column[] = {"big order, 1", "big order, 2", "little order, 1", "little order, 2"};
+    for (int i = 0; i < 4; i++)
+        count("copy", row, column[i], &reception_case,
+              (struct setting){.order = i / 2, .rows = 1, .signals = 1, .bits = bits, .destinations = i % 2 + 1, .edge = edge});
+}
+
+static void all_copies(void)
+{
+    copies("1 bit", 1, 0);
+    copies("8 bits in one byte", 8, 1);
+    copies("8 bits in two bytes", 8, 0);
+    copies("12 bits in two bytes", 12, 1);
+    copies("12 bits in three bytes", 12, 0);
+    copies("64 bits in eight bytes", 64, 0);
 }
 
 static void ticks(const char *row, const struct scene *scene, int timers)
@@ -146,6 +164,7 @@ int program(int words, char **word)
         return check(word[2], word[3]);
     steps_begin();
     all_receptions();
+    all_copies();
     all_ticks();
     queues();
     plans();

@@ -68,7 +68,7 @@ void put_destination(struct plan *plan, int tx, int position)
 
 static const struct times stopped = {1, 0, 0};
 
-void plan_reception(struct plan *plan, int order, int rows, int signals, int bits, int destinations)
+void plan_reception(struct plan *plan, int order, int rows, int signals, int bits, int destinations, int edge)
 {
     put_head(plan, order);
     put_node(plan);
@@ -77,10 +77,10 @@ void plan_reception(struct plan *plan, int order, int rows, int signals, int bit
     for (int r = 0; r < rows; r++) {
         put_rx(plan, 0, row_id(r), 8, (struct times){1, 100, 100}, 0, 0, 0);
         for (int s = 0; s < signals && r == 0; s++) {
-            // no signal begins at a byte's edge, but for the whole payload
+            // no signal begins at a byte's edge, but for the whole payload; a destination does where it is asked
             put_signal(plan, bits == 64 ? 0 : 3 + 14 * s, bits);
             for (int d = 0; d < destinations; d++)
-                put_destination(plan, destinations * s + d, bits == 64 ? 0 : 6);
+                put_destination(plan, destinations * s + d, bits == 64 ? 0 : edge ? 8 : 6);
         }
     }
 }

@@ -22,7 +22,7 @@ void put_destination(struct plan *plan, int tx, int position);
 static inline uint32_t row_id(int i) { return 7 * i + 3; }
 
 // One node with `rows` rows. The first has `signals` signals of `bits` bits, each to `destinations` Tx frames of its own.
-void plan_reception(struct plan *plan, int order, int rows, int signals, int bits, int destinations);
+void plan_reception(struct plan *plan, int order, int rows, int signals, int bits, int destinations, int edge);
 // Timers of one prescaler. From the 21st tick on one of them expires at each handling, as in AN3333's own measurements.
 void plan_tx_timers(struct plan *plan, int timers, int prescaler);
 void plan_rx_timers(struct plan *plan, int timers, int prescaler);

@@ -1,9 +1,11 @@
 -- What an event does to one claim, by what the claim is; and that neither the event's Rx number nor the claim's counts.
 use mathlib.Core.Path.{_≡_, refl, ap, _∙_}
 use mathlib.Core.List.{List, [], _∷_}
-use Prim.Native.Nat.{ℕ, _%_, _<_, _≤_}
+use Prim.Native.Nat.{ℕ, _+_, _%_, _<_, _≤_}
 use native.Mathlib.Omega.{arith}
 use Rattle.bits.specs.Payload.{setBit}
+use Rattle.bits.specs.Word.{fitting}
+use Rattle.bits.proofs.Fitting.{fitting-is}
 use Rattle.plan.specs.Rows.{Source, copy, failure, widthOf, Claim}
 use Rattle.area.specs.Layout.{spot}
 use Rattle.area.specs.Claims.{RxEvent, accepted, expired, doneBy, sentBy, done, allDone}
@@ -56,6 +58,11 @@ module _ (o n : ℕ) where
   unfolding allDone
   allDone-numbered e [] a = refl
   allDone-numbered e (c ∷ cs) a = allDone-numbered e cs _ ∙ ap (allDone o e cs) (done-numbered e a c)
+
+-- ---- a signal that fits its Tx frame's payload is copied whole: payloads begin at a byte
+
+pub fitting-spot : (t q s : ℕ) → q + s ≤ 64 → fitting (spot t q) s ≡ s
+fitting-spot t q s h = fitting-is (spot t q) s (omega arith)
 
 -- ---- the claims that a plan of bytes states are narrow
 

@@ -4,7 +4,7 @@ use mathlib.Core.Path.{_≡_, refl, _∙_}
 use mathlib.Core.Bool.{Bool}
 use mathlib.Core.List.{List, [], _∷_}
 use Prim.Native.Nat.{ℕ, zero, suc, _+_, _-_, _<_, _≤_, _/_, _%_}
-use native.Mathlib.Nat.{add-zero}
+use native.Mathlib.Nat.{add-zero, lt-of-lt-of-le}
 use native.Mathlib.Omega.{arith}
 use lib.ListN.{length, set, drop, length-set, length-drop}
 use lib.Seq.{getD-set-other, getD-drop, ext-getD}
@@ -13,6 +13,7 @@ use Rattle.base.specs.Numbers.{byteAt, lowAt, setLow}
 use Rattle.base.proofs.Picks.{both}
 use Rattle.base.proofs.Ranges.{at-most-le}
 use Rattle.bits.specs.Payload.{bitAt, setBit, copied}
+use Rattle.bits.proofs.Fitting.{fitting-le}
 use Rattle.plan.specs.Rows.{Source, copy, failure, widthOf, Claim}
 use Rattle.area.specs.declared.queue.Ends.{Ends}
 use Rattle.area.specs.Layout.{txReloadsStart, fullStart, entriesStart, payloadsStart, planStart, entryCount, queue, waits, txTimer, spot}
@@ -144,7 +145,8 @@ module _ {P : ℕ → Type 0} (ends : (n : ℕ) → n < 16 → NoEnds P n) (ring
       (o : ℕ) (e : RxEvent) (a : List ℕ) (place : ℕ) (s : Source) → ((k : ℕ) → k < widthOf s → P ((place + k) / 8) → ⊥)
       → Same P a (doneBy o e a place s)
   unfolding doneBy widthOf
-  same-doneBy o (accepted r pl) a place (copy p s) never = same-copied o _ _ s place never (same-refl a)
+  same-doneBy o (accepted r pl) a place (copy p s) never =
+      same-copied o _ _ _ place (λ j l. never j (lt-of-lt-of-le l (fitting-le place s))) (same-refl a)
   same-doneBy o (accepted r pl) a place failure never = same-setBit o place _ (λ p. never 0 (omega arith) (rw add-zero p)) (same-refl a)
   same-doneBy o (expired r) a place (copy p s) never = same-refl a
   same-doneBy o (expired r) a place failure never = same-setBit o place _ (λ p. never 0 (omega arith) (rw add-zero p)) (same-refl a)

@@ -5,6 +5,7 @@ use mathlib.Core.List.{List, [], _∷_}
 use lib.Dec.{eqb}
 use Rattle.base.specs.Pick.{pick}
 use Rattle.bits.specs.Payload.{setBit, copied, differs}
+use Rattle.bits.specs.Word.{fitting}
 use Rattle.records.specs.Kinds.{rxAt}
 use Rattle.plan.specs.Rows.{Source, copy, failure, Claim}
 use Rattle.area.specs.Layout.{spot, stored, txFrame, failureTx}
@@ -20,16 +21,17 @@ unfoldable pub sentIf : ℕ → Bool → List ℕ → ℕ → List ℕ
 sentIf flags changed a t =
     pick (eqb (flags % 2) 1) (scheduled a t) (pick (eqb (flags / 2 % 2) 1) (pick changed (scheduled a t) a) a)
 
--- what an event does to the bits from a place on: an acceptance copies a signal and clears the failure bit, an expiry sets that bit
+-- what an event does to the bits from a place on: an acceptance copies a signal and clears the failure bit, an expiry sets that bit. A signal of
+-- an area that no opening made can be too long for its place: the bits are copied that the eight bytes there have room for
 unfoldable pub doneBy : ℕ → RxEvent → List ℕ → ℕ → Source → List ℕ
-doneBy o (accepted r pl) a place (copy p s) = copied o pl p s a place
+doneBy o (accepted r pl) a place (copy p s) = copied o pl p (fitting place s) a place
 doneBy o (accepted r pl) a place failure = setBit o a place 0
 doneBy o (expired r) a place (copy p s) = a
 doneBy o (expired r) a place failure = setBit o a place 1
 
 -- and to the queue of the Tx frame: "A change of a failure bit schedules nothing." a is the area before, b after
 unfoldable pub sentBy : ℕ → RxEvent → List ℕ → List ℕ → ℕ → ℕ → Source → List ℕ
-sentBy o (accepted r pl) a b t place (copy p s) = sentIf (txFrame a t .flags) (differs o pl p s a place) b t
+sentBy o (accepted r pl) a b t place (copy p s) = sentIf (txFrame a t .flags) (differs o pl p (fitting place s) a place) b t
 sentBy o (accepted r pl) a b t place failure = b
 sentBy o (expired r) a b t place (copy p s) = b
 sentBy o (expired r) a b t place failure = b

@@ -5,10 +5,14 @@ use crate::frames::rx_position;
 use crate::frames::tx_flags;
 use crate::layout::PAYLOADS_START;
 use crate::queue::schedule;
+use bits::signal::Signal;
+use bits::signal::put_signal;
 use records::record::TxNumber;
 ghost use mathlib.Core.Path.{_≡_};
-ghost use Prim.Native.Nat.{_≤_, _<_};
-ghost use lib.ListN.{length};
+ghost use mathlib.Core.List.{List};
+ghost use Prim.Native.Nat.{ℕ, _≤_, _<_};
+ghost use Rattle.base.specs.Numbers.{atMost};
+ghost use Rattle.bits.specs.Word.{Bits, onesOf};
 ghost use Rattle.records.specs.Kinds.{rxAt};
 ghost use Rattle.plan.specs.Rows.{copy};
 ghost use Rattle.area.specs.Layout.{lastPlace, LongEnough, stored};
@@ -19,12 +23,12 @@ fn send_if(flags: u8, changed: bool, area: &mut [u8], t: TxNumber)
     requires { ⌜ (t .0 < 256) × LongEnough (now area) ⌝ }
     ensures { λ r. ⌜ now (area .exit) ≡ sentIf flags changed (now (area .entry)) (t .0) ⌝ }
 {
-    if flags % 2 == 1 {
-        schedule(area, t);
-        return;
-    }
-    if flags / 2 % 2 == 1 {
-        if changed {
+    if changed {
+        if flags % 4 != 0 {
+            schedule(area, t);
+        }
+    } else {
+        if flags % 2 != 0 {
             schedule(area, t);
         }
     }
@@ -43,28 +47,16 @@ pub fn write_failure(order: u8, v: u8, area: &mut [u8], at: usize)
     }
 }
 
-// A signal of an accepted payload, position `p` and size `s`, goes to position `q` of a Tx frame's payload.
-pub fn copy_claim(
-    order: u8,
-    source: &[u8],
-    p: usize,
-    s: usize,
-    area: &mut [u8],
-    t: TxNumber,
-    q: usize,
-)
-    requires { ⌜ (length (now source) ≡ 64) × (p < 256) × (s < 256) × (t .0 < 256) × (q < 256) × LongEnough (now area) ⌝ }
-    ensures { λ r. ⌜ now (area .exit) ≡
-        done order (accepted 0 (now (source .entry))) (now (area .entry)) (record { rx = 0; tx = t .0; at = q; from = copy p s }) ⌝ }
+// A signal of an accepted payload goes to position `q` of a Tx frame's payload. What it promises holds of each payload that the signal can have been
+// taken from.
+pub fn copy_claim(order: u8, signal: Signal, area: &mut [u8], t: TxNumber, q: usize)
+    requires { ⌜ (signal .ones ≡ onesOf order (atMost 64 (signal .size))) × (t .0 < 256) × (q < 256) × LongEnough (now area) ⌝ }
+    ensures { λ r. ⌜ ((source : List ℕ) → Bits order (signal .bits) source (signal .position) (signal .size)
+        → now (area .exit) ≡ done order (accepted 0 source) (now (area .entry))
+        (record { rx = 0; tx = t .0; at = q; from = copy (signal .position) (signal .size) })) ⌝ }
 {
     let flags = tx_flags(area, t);
-    let changed = bits::payload::copy_signal(
-        order,
-        source,
-        p,
-        s,
-        area,
-        8 * PAYLOADS_START + 64 * t.0 + q,
-    );
+    let place = 8 * PAYLOADS_START + 64 * t.0 + q;
+    let changed = put_signal(order, signal, area, place);
     send_if(flags, changed, area, t);
 }

@@ -1,6 +1,12 @@
 pub mod DigitLaws
+pub mod ShiftLaws
 pub mod PayloadLaws
 pub mod CopyLaws
+pub mod Fitting
 pub mod OwnerLaws
 pub mod MaskLaws
 pub mod CopyCases
+pub mod MadeUp
+pub mod WordLaws
+pub mod Stored
+pub mod SignalLaws

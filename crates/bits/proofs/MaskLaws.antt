@@ -3,15 +3,16 @@ use mathlib.Core.Path.{_≡_, refl, sym, ap, _∙_}
 use mathlib.Core.Logic.{_≢_}
 use mathlib.Core.Bool.{Bool, true, false}
 use Prim.Native.Nat.{ℕ, zero, suc, _+_, _-_, _*_, _/_, _%_, _^_, _≤_, _<_, min}
-use native.Mathlib.Nat.{pow-suc, mul-comm, add-mul, mul-one, zero-add, suc-add, min-le-left, min-zero, zero-min}
+use native.Mathlib.Nat.{pow-suc, mul-comm, add-mul, min-le-left, min-zero, zero-min}
 use native.Mathlib.Decide.{decLt}
 use native.Mathlib.Omega.{arith}
-use lib.Bits.{bitAnd, bitOr, and-step, and-le-l, or-disjoint, shifted-half, shifted-even}
+use lib.Bits.{bitAnd, bitOr, and-step, and-le-l, or-disjoint}
 use lib.Dec.{eqb}
 use lib.Pow.{pow-add, ones-split, ones-lt, high, shl-exact}
 use Rattle.bits.specs.Digit.{digit, setDigit}
 use Rattle.bits.specs.Owners.{owned, clash}
 use Rattle.bits.proofs.DigitLaws.{digit-zero, digit-suc, same-digits}
+use Rattle.bits.proofs.ShiftLaws.{none-at, digit-up, digit-under}
 use Rattle.bits.proofs.CopyLaws.{neither}
 use Rattle.bits.proofs.OwnerLaws.{owned-other, clash-exactly, clash-none}
 
@@ -21,39 +22,30 @@ range s p = (2 ^ s - 1) * 2 ^ p
 
 -- ---- the digits of a range, and of an and
 
-none-at : (e : ℕ) → digit 0 e ≡ 0
-none-at zero = rw digit-zero
-none-at (suc e) = rw digit-suc (none-at e)
-
 ones-half : (s : ℕ) → (2 ^ suc s - 1) / 2 ≡ 2 ^ s - 1
 ones-half s = omega (arith, pow-suc 2 s, ones-lt s)
 
-ones-in : (s k : ℕ) → k < s → digit (2 ^ s - 1) k ≡ 1
+pub ones-in : (s k : ℕ) → k < s → digit (2 ^ s - 1) k ≡ 1
 ones-in zero k l = absurd (omega arith)
 ones-in (suc s) zero l = rw digit-zero (omega (arith, pow-suc 2 s, ones-lt s))
 ones-in (suc s) (suc k) l = rw (digit-suc, ones-half) (ones-in s k (omega arith))
 
-ones-above : (s e : ℕ) → s ≤ e → digit (2 ^ s - 1) e ≡ 0
+pub ones-above : (s e : ℕ) → s ≤ e → digit (2 ^ s - 1) e ≡ 0
 ones-above zero e h = none-at e
 ones-above (suc s) zero h = absurd (omega arith)
 ones-above (suc s) (suc e) h = rw (digit-suc, ones-half) (ones-above s e (omega arith))
 
 -- each bit of the range is in it, and no other
-range-in : (s p k : ℕ) → k < s → digit (range s p) (p + k) ≡ 1
-range-in s zero k l = rw (mul-one, zero-add) (ones-in s k l)
-range-in s (suc p) k l = rw (suc-add, digit-suc, shifted-half) (range-in s p k l)
+pub range-in : (s p k : ℕ) → k < s → digit (range s p) (p + k) ≡ 1
+range-in s p k l = digit-up (2 ^ s - 1) p k ∙ ones-in s k l
 
-range-above : (s p e : ℕ) → p + s ≤ e → digit (range s p) e ≡ 0
-range-above s zero e h = rw mul-one (ones-above s e (omega arith))
-range-above s (suc p) zero h = absurd (omega arith)
-range-above s (suc p) (suc e) h = rw (digit-suc, shifted-half) (range-above s p e (omega arith))
+pub range-above : (s p e : ℕ) → p + s ≤ e → digit (range s p) e ≡ 0
+range-above s p e h = let i : p + (e - p) ≡ e = omega arith in rw i at (digit-up (2 ^ s - 1) p (e - p) ∙ ones-above s (e - p) (omega arith))
 
-range-below : (s p e : ℕ) → e < p → digit (range s p) e ≡ 0
-range-below s zero e h = absurd (omega arith)
-range-below s (suc p) zero h = rw (digit-zero, shifted-even)
-range-below s (suc p) (suc e) h = rw (digit-suc, shifted-half) (range-below s p e (omega arith))
+pub range-below : (s p e : ℕ) → e < p → digit (range s p) e ≡ 0
+range-below s p e h = digit-under (2 ^ s - 1) p e h
 
-digit-and : (a b e : ℕ) → digit (bitAnd a b) e ≡ min (digit a e) (digit b e)
+pub digit-and : (a b e : ℕ) → digit (bitAnd a b) e ≡ min (digit a e) (digit b e)
 digit-and a b zero = rw (digit-zero, digit-zero a, digit-zero b) (omega (arith, and-step a b, min-le-left (a % 2) (b % 2)))
 digit-and a b (suc e) =
     rw (digit-suc, digit-suc a e, digit-suc b e)

@@ -31,16 +31,16 @@ digitOf-apart zero p q h e = omega arith
 digitOf-apart (suc order) p q h e = omega arith
 
 -- and each digit e of each byte i is a bit
-positionOf : ℕ → ℕ → ℕ → ℕ
+pub positionOf : ℕ → ℕ → ℕ → ℕ
 positionOf zero i e = 8 * i + (7 - e)
 positionOf (suc order) i e = 8 * i + e
 
-position-byte : (order i e : ℕ) → e < 8 → positionOf order i e / 8 ≡ i
+pub position-byte : (order i e : ℕ) → e < 8 → positionOf order i e / 8 ≡ i
 unfolding positionOf
 position-byte zero i e h = omega arith
 position-byte (suc order) i e h = omega arith
 
-position-digit : (order i e : ℕ) → e < 8 → digitOf order (positionOf order i e) ≡ e
+pub position-digit : (order i e : ℕ) → e < 8 → digitOf order (positionOf order i e) ≡ e
 unfolding positionOf digitOf
 position-digit zero i e h = omega arith
 position-digit (suc order) i e h = omega arith

@@ -2,3 +2,5 @@
 mod digits;
 pub mod owners;
 pub mod payload;
+pub mod signal;
+mod word;

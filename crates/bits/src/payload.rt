@@ -1,18 +1,13 @@
 // The bits of a payload of any length, in either order, and the copy of a signal.
 use crate::digits;
+use crate::signal::put_signal;
+use crate::signal::take_signal;
+use crate::word::low_first;
+use base::at_most;
 ghost use mathlib.Core.Path.{_≡_};
 ghost use Prim.Native.Nat.{_+_, _*_, _^_, _<_, _≤_};
 ghost use lib.ListN.{length};
-ghost use Rattle.bits.specs.Payload.{bitAt, setBit, copied, differs};
-
-// Bit `p` of a payload.
-pub fn read_bit(order: u8, payload: &[u8], p: usize) -> u8
-    requires { ⌜ p < 8 * length (now payload) ⌝ }
-    ensures { λ r. ⌜ (r ≡ bitAt order (now (payload .entry)) p) × (r < 2) ⌝ }
-{
-    let byte = payload[p / 8];
-    digits::get(byte, digits::digit_of(order, p))
-}
+ghost use Rattle.bits.specs.Payload.{setBit, copied, differs};
 
 // Bit `p` of a payload becomes `v`.
 pub fn write_bit(order: u8, payload: &mut [u8], p: usize, v: u8)
@@ -40,13 +35,14 @@ pub fn copy_signal(
     let mut changed = false;
     let mut k = 0;
     while k < size {
-        let new = read_bit(order, source, p + k);
-        let old = read_bit(order, kept, q + k);
-        if old != new {
+        // a piece ends with a byte of the destination or with the signal, so that each byte there is stored once
+        let n = at_most(56 - (q + k) % 8, size - k);
+        let bytes = low_first(source, (p + k) / 8);
+        let piece = take_signal(order, bytes, (p + k) % 8, n);
+        if put_signal(order, piece, kept, q + k) {
             changed = true;
         }
-        write_bit(order, kept, q + k, new);
-        k += 1;
+        k += n;
     }
     changed
 }

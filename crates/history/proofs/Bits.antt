@@ -20,6 +20,7 @@ use Rattle.facts.specs.Statements.{Small}
 use Rattle.area.specs.Layout.{payloadsStart, txMasksStart, LongEnough, spot}
 use Rattle.area.specs.Claims.{RxEvent, accepted, expired, doneBy, sentBy, done}
 use Rattle.area.proofs.Frame.{Same, same-bit, same-done}
+use Rattle.area.proofs.ClaimLaws.{fitting-spot}
 use Rattle.history.specs.Fresh.{Owner, nobody, signal, indicator, holds, ownerFrom, ownerIn}
 use Rattle.history.specs.Statements.{OwnedBy}
 use Rattle.history.proofs.Aside.{Aside, aside-sentIf}
@@ -108,7 +109,7 @@ module _ (o t b : ℕ) (frame : t < 256) (small : b < 64) where
   unfolding doneBy turned ownerFrom widthOf pick
   inside (accepted r payload) a q (copy p k) room low high long =
       let e : spot t b ≡ spot t q + (b - q) = omega arith in
-      rw (eq-eqb r r refl, e) (copied-bit o payload p a (spot t q) k (b - q) (omega arith) (omega arith))
+      rw (eq-eqb r r refl, fitting-spot t q k room, e) (copied-bit o payload p a (spot t q) k (b - q) (omega arith) (omega arith))
   inside (accepted r payload) a q failure room low high long =
       let e : spot t b ≡ spot t q = omega arith in
       rw (eq-eqb r r refl, e) (bitAt-setBit-same o a (spot t q) 0 (omega arith) (omega arith))
@@ -121,7 +122,8 @@ module _ (o t b : ℕ) (frame : t < 256) (small : b < 64) where
       (e : RxEvent) (a : List ℕ) (x q : ℕ) (s : Source) → x < 256 → q + widthOf s ≤ 64 → ((j : ℕ) → j < widthOf s → spot t b ≢ spot x q + j)
       → LongEnough a → now (doneBy o e a (spot x q) s) ≡ now a
   unfolding doneBy widthOf
-  outside (accepted r payload) a x q (copy p k) h room d long = copied-other o payload p a (spot x q) k (spot t b) (omega arith) d
+  outside (accepted r payload) a x q (copy p k) h room d long =
+      rw (fitting-spot x q k room) (copied-other o payload p a (spot x q) k (spot t b) (omega arith) d)
   outside (accepted r payload) a x q failure h room d long =
       bitAt-setBit-other o a (spot x q) 0 (spot t b) (omega arith) (omega arith) (λ e. d 0 (omega arith) (omega arith))
   outside (expired r) a x q (copy p k) h room d long = refl

@@ -60,7 +60,6 @@ only-theirs plan good a reads t b h small =
           by-answer a n id payload (λ x c. keptBit plan c t b ≡ keptBit plan a t b) (λ x e. refl)
           (λ r f.
           accepted-turns plan good t b frame small a reads (r .0) payload (row-found plan good a reads n id payload r f)
-          (omega (arith, f .short))
           ∙ turned-other _ (owner plan t b) _ (accepted (r .0) payload) (d (r .0) (row-named plan good a reads n id payload r f)));
       tick = λ report d. tick-turns plan good t b frame small a report reads ∙ tick-leaves _ (owner plan t b) d _ _ _ _;
       take = λ n. taken-leaves _ t b frame small a n;

@@ -1,6 +1,5 @@
 pub mod Search
 pub mod LookupLaws
 pub mod WalkLaws
-pub mod Padded
 pub mod Outcomes
 pub mod ReceptionLaws

@@ -26,7 +26,7 @@ use Rattle.answers.specs.declared.Received.the-variants.{Accepted, NoRow, TooSh
 use Rattle.reception.specs.declared.lookup.Found.{Found}
 use Rattle.reception.specs.declared.lookup.Found.the-variants.{At, Nothing}
 use Rattle.reception.specs.Lookup.{lookedUp}
-use Rattle.reception.specs.Reception.{padded, restarted, acceptedArea, foundAnswer, foundArea, receivedAnswer, receivedArea}
+use Rattle.reception.specs.Reception.{restarted, acceptedArea, foundAnswer, foundArea, receivedAnswer, receivedArea}
 use Rattle.reception.proofs.Search.{found-small}
 use Rattle.reception.proofs.WalkLaws.{kept-restarted}
 use Rattle.reception.proofs.Outcomes.{goes-on}
@@ -91,12 +91,12 @@ module _ (a : List ℕ) (b : Bytes a) where
   unfolding acceptedArea
   kept-accepted r payload h =
       kept-then (kept-restarted a r h)
-      (kept-allDone (order a) (accepted r (padded payload)) (claims a r) _ (narrow-claims a r b))
+      (kept-allDone (order a) (accepted r payload) (claims a r) _ (narrow-claims a r b))
 
   counter-accepted : (r : ℕ) (payload : List ℕ) → counter (acceptedArea a r payload) ≡ counter a
   unfolding acceptedArea restarted
   counter-accepted r payload =
-      counter-allDone (order a) (accepted r (padded payload)) (claims a r) _ (narrow-claims a r b)
+      counter-allDone (order a) (accepted r payload) (claims a r) _ (narrow-claims a r b)
       ∙ getD-set-other a (rxTimer r) counterByte _ 0 (λ e. omega arith)
 
   module _ (n id : ℕ) (payload : List ℕ) where

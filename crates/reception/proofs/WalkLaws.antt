@@ -15,7 +15,7 @@ use Rattle.area.specs.Claims.{accepted, done, allDone, failureWritten}
 use Rattle.area.proofs.Kept.{Kept, kept-refl, kept-low, stored-kept}
 use Rattle.area.proofs.ClaimLaws.{claimOf, allDone-numbered}
 use Rattle.area.proofs.Copies.{copies-destination, copies-signal, copies-stop, copies-end, copies-rx, accepted-claims, kept-failure, done-low}
-use Rattle.reception.specs.Reception.{padded, restarted, acceptedArea}
+use Rattle.reception.specs.Reception.{restarted, acceptedArea}
 use Rattle.reception.specs.Walk.{walked}
 
 -- ---- the record at a place
@@ -58,14 +58,14 @@ kept-restarted a r h = kept-low (rxTimer r) _ (omega arith) (omega arith) (kept-
 pub walked-accepted :
     (a : List ℕ) (r : ℕ) (payload b c : List ℕ) → r < rowBound → b ≡ restarted a r → c ≡ failureWritten (order a) 0 b (rxRecordPlace a r)
     → rxAt (stored b) (rxRecordPlace a r) .position < 256
-    → walked (order a) (padded payload) 0 0 (stored c) (rxRecordPlace a r + rxBytes) c ≡ acceptedArea a r payload
+    → walked (order a) payload 0 0 (stored c) (rxRecordPlace a r + rxBytes) c ≡ acceptedArea a r payload
 unfolding walked acceptedArea claims
 walked-accepted a r payload b c h e f narrow =
     let at = rxRecordPlace a r in
     let kept : Kept a b = rw e (kept-restarted a r h) in
     let same : stored c ≡ stored b = rw f (stored-kept (kept-failure (order a) 0 b at narrow)) in
     rw (same, ← e)
-    (copies-rx (order a) (accepted 0 (padded payload)) 0 r 0 0 (recordsAt (stored b) (at + rxBytes)) c
-    ∙ sym (allDone-numbered (order a) r (accepted 0 (padded payload)) _ c)
-    ∙ ap (allDone (order a) (accepted r (padded payload)) (claimsFrom r none 0 0 (recordsAt (stored b) (at + rxBytes)))) f
-    ∙ sym (accepted-claims (order a) r a at b (padded payload) (stored-kept kept)))
+    (copies-rx (order a) (accepted 0 payload) 0 r 0 0 (recordsAt (stored b) (at + rxBytes)) c
+    ∙ sym (allDone-numbered (order a) r (accepted 0 payload) _ c)
+    ∙ ap (allDone (order a) (accepted r payload) (claimsFrom r none 0 0 (recordsAt (stored b) (at + rxBytes)))) f
+    ∙ sym (accepted-claims (order a) r a at b payload (stored-kept kept)))

@@ -1,8 +1,8 @@
 -- "Reception takes node, ID and payload."
 use Prim.Native.Nat.{ℕ}
-use mathlib.Core.List.{List, _++_}
+use mathlib.Core.List.{List}
 use lib.Dec.{leb, ltb}
-use lib.ListN.{length, set, take, replicate}
+use lib.ListN.{length, set}
 use Rattle.base.specs.Pick.{pick}
 use Rattle.base.specs.Numbers.{byteAt}
 use Rattle.area.specs.Layout.{rxReload, rxTimer, marked, order, nodeCount, rxFrame, claims}
@@ -14,10 +14,6 @@ use Rattle.reception.specs.declared.lookup.Found.{Found}
 use Rattle.reception.specs.declared.lookup.Found.the-variants.{At, Nothing}
 use Rattle.reception.specs.Lookup.{lookedUp}
 
--- the payload with zero bytes after it, 64 in all: a copy on an area full of garbage may ask for any of them
-unfoldable pub padded : List ℕ → List ℕ
-padded payload = take 64 (payload ++ replicate 64 0)
-
 -- what an acceptance does to the row's own state: "the Rx timer takes its reload value"
 unfoldable pub restarted : List ℕ → ℕ → List ℕ
 restarted a r = set a (rxTimer r) (byteAt a (rxReload r))
@@ -25,8 +21,7 @@ restarted a r = set a (rxTimer r) (byteAt a (rxReload r))
 -- "Then in order: the Rx timer takes its reload value; an enabled failure bit becomes 0; signals are copied in plan order, each to its
 -- destinations in order."
 unfoldable pub acceptedArea : List ℕ → ℕ → List ℕ → List ℕ
-acceptedArea a r payload =
-    allDone (order a) (accepted r (padded payload)) (claims a r) (restarted a r)
+acceptedArea a r payload = allDone (order a) (accepted r payload) (claims a r) (restarted a r)
 
 -- "A frame with no matching row is not processed further: answer 1, nothing changes. .. A payload shorter than the row's size: answer 2,
 -- nothing changes. Otherwise it is accepted, answer 0"

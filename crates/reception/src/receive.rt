@@ -1,7 +1,6 @@
 // The reception of a frame: the call, and the acceptance. The walk that follows it is in `walk`.
 use crate::lookup::Found;
 use crate::lookup::look_up;
-use crate::walk::pad;
 use crate::walk::walk;
 use answers::Received;
 use answers::Refusal;
@@ -67,8 +66,7 @@ fn accept(area: &mut [u8], r: RxNumber, at: usize, payload: &[u8])
     let order = area[ORDER_BYTE];
     restart(area, r);
     write_failure(order, 0, area, at);
-    let source = pad(payload);
-    walk(order, &source, area, at + RX_BYTES);
+    walk(order, payload, area, at + RX_BYTES);
 }
 
 // The Rx timer takes its reload value.

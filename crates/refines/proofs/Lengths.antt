@@ -13,7 +13,7 @@ use Rattle.answers.specs.declared.Opened.the-variants.{Open, Refused}
 use Rattle.answers.specs.declared.Ticked.{Ticked}
 use Rattle.opening.specs.Opened.{openedArea}
 use Rattle.opening.proofs.OpenedLaws.{opened-length}
-use Rattle.reception.specs.Reception.{padded, restarted, acceptedArea, receivedArea}
+use Rattle.reception.specs.Reception.{restarted, acceptedArea, receivedArea}
 use Rattle.reception.proofs.ReceptionLaws.{by-answer}
 use Rattle.ticking.specs.Tick.{tickedArea}
 use Rattle.ticking.proofs.TickLaws.{length-ticked, by-answer as by-tick}
@@ -39,7 +39,7 @@ opened-sized (Refused why number) plan a = refl
 
 accepted-sized : (a : List ℕ) (r : ℕ) (payload : List ℕ) → length (acceptedArea a r payload) ≡ length a
 unfolding restarted acceptedArea
-accepted-sized a r payload = sized-done (order a) (accepted r (padded payload)) (claims a r) _ .len ∙ length-set a (rxTimer r) _
+accepted-sized a r payload = sized-done (order a) (accepted r payload) (claims a r) _ .len ∙ length-set a (rxTimer r) _
 
 received-sized : (a : List ℕ) (n id : ℕ) (payload : List ℕ) → length (receivedArea a n id payload) ≡ length a
 received-sized a n id payload =

@@ -1,19 +1,18 @@
 -- What an accepted payload does claim by claim, in an area and in the state that it shows.
-use mathlib.Core.Path.{_≡_, refl, ap, _∙_}
+use mathlib.Core.Path.{_≡_, refl, ap}
 use mathlib.Core.Bool.{Bool}
 use mathlib.Core.List.{List, [], _∷_}
-use Prim.Native.Nat.{ℕ, zero, suc, _+_, _/_, _%_, _≤_, _<_}
+use Prim.Native.Nat.{ℕ, _+_, _/_, _%_, _≤_, _<_}
 use native.Mathlib.Omega.{arith}
 use lib.Dec.{eqb}
 use lib.ListN.{length}
-use Rattle.bits.specs.Payload.{copied, differs}
 use Rattle.records.specs.Records.{records}
 use Rattle.plan.specs.Rows.{Source, copy, failure, widthOf, Claim, txOf, rowsOf, orderIn}
 use Rattle.facts.specs.Good.{Each}
 use Rattle.area.specs.Layout.{spot, order, txFrame, claims}
 use Rattle.area.specs.Claims.{accepted, sentIf, doneBy, sentBy, done, allDone}
-use Rattle.reception.specs.Reception.{padded, restarted, acceptedArea}
-use Rattle.reception.proofs.Padded.{padded-bit}
+use Rattle.area.proofs.ClaimLaws.{fitting-spot}
+use Rattle.reception.specs.Reception.{restarted, acceptedArea}
 use Rattle.tables.specs.Reads.{rowAt}
 use Rattle.model.specs.Plan.{said, txIn}
 use Rattle.model.specs.State.{State}
@@ -25,19 +24,6 @@ use Rattle.refines.proofs.Writes.{write-rx}
 use Rattle.refines.proofs.Bits.{held-setBit, held-copied, same-differs}
 use Rattle.refines.proofs.Sched.{held-scheduled}
 use Rattle.refines.proofs.Follows.{chosen}
-
--- ---- a payload with zero bytes after it has the bits of the payload
-
-module _ (o : ℕ) (payload : List ℕ) (short : length payload ≤ 64) (p : ℕ) (kept : List ℕ) (q : ℕ) where
-  pub padded-copied : (k : ℕ) → copied o (padded payload) p k kept q ≡ copied o payload p k kept q
-  unfolding copied
-  padded-copied zero = refl
-  padded-copied (suc k) = rw (padded-copied k, padded-bit payload short o (p + k))
-
-  pub padded-differs : (k : ℕ) → differs o (padded payload) p k kept q ≡ differs o payload p k kept q
-  unfolding differs
-  padded-differs zero = refl
-  padded-differs (suc k) = rw (padded-differs k, padded-bit payload short o (p + k))
 
 module _ {plan : List ℕ} (lawful : Lawful (said plan)) where
   -- ---- "the Tx frame is scheduled if flag 1 is set, or flag 2 is set and any destination bit differed from the kept one"
@@ -52,39 +38,38 @@ module _ {plan : List ℕ} (lawful : Lawful (said plan)) where
 
   -- ---- one claim
 
-  module _ (o r : ℕ) (e : o ≡ orderIn (records plan)) (payload : List ℕ) (short : length payload ≤ 8) (c : Claim) (l : c .tx < length (txOf plan)) where
+  module _ (o r : ℕ) (e : o ≡ orderIn (records plan)) (payload : List ℕ) (c : Claim) (l : c .tx < length (txOf plan)) where
     put-by : {a : List ℕ} {s : State} → Held plan a s → (t : ℕ) → t ≡ c .tx → (z : Source) → c .at + widthOf z ≤ 64
         → Held plan
-        (sentBy o (accepted r (padded payload)) a (doneBy o (accepted r (padded payload)) a (spot t (c .at)) z) t (spot t (c .at)) z)
+        (sentBy o (accepted r payload) a (doneBy o (accepted r payload) a (spot t (c .at)) z) t (spot t (c .at)) z)
         (putBy (said plan) s payload c z)
     unfolding sentBy doneBy putBy widthOf
     put-by {a} {s} h t i (copy p k) m =
         let f : txFrame a (c .tx) .flags ≡ txIn (said plan) (c .tx) .flags = ap (λ x. x .flags) (h .reads .tx (c .tx) l .frame) in
         let order = orderIn (records plan) in
-        rw (i, e, f)
-        (held-sentIf (rw (padded-copied order payload (omega arith) p _ _ k) (held-copied h (c .tx) l order payload p k (c .at) m)) (c .tx) l _ _ _
-        (padded-differs order payload (omega arith) p a (spot (c .tx) (c .at)) k ∙ same-differs h (c .tx) l order payload p k (c .at) m))
+        rw (i, e, f, fitting-spot (c .tx) (c .at) k m)
+        (held-sentIf (held-copied h (c .tx) l order payload p k (c .at) m) (c .tx) l _ _ _ (same-differs h (c .tx) l order payload p k (c .at) m))
     put-by h t i failure m = rw (i, e) (held-setBit h (c .tx) l (orderIn (records plan)) (c .at) 0 (omega arith) (omega arith))
 
     held-put : {a : List ℕ} {s : State} → Held plan a s → c .at + widthOf (c .from) ≤ 64
-        → Held plan (done o (accepted r (padded payload)) a c) (putBy (said plan) s payload c (c .from))
+        → Held plan (done o (accepted r payload) a c) (putBy (said plan) s payload c (c .from))
     unfolding done
     held-put h m = put-by h (c .tx % 256) (omega (arith, l, h .good .counts .tx)) (c .from) m
 
   -- ---- "signals are copied in plan order, each to its destinations in order"
 
-  held-puts : {a : List ℕ} {s : State} (o r : ℕ) → o ≡ orderIn (records plan) → (payload : List ℕ) → length payload ≤ 8 → (cs : List Claim)
+  held-puts : {a : List ℕ} {s : State} (o r : ℕ) → o ≡ orderIn (records plan) → (payload : List ℕ) (cs : List Claim)
       → Held plan a s → Each (λ c. c .tx < length (txOf plan)) cs → Each (λ c. c .at + widthOf (c .from) ≤ 64) cs
-      → Held plan (allDone o (accepted r (padded payload)) cs a) (put (said plan) s payload cs)
+      → Held plan (allDone o (accepted r payload) cs a) (put (said plan) s payload cs)
   unfolding allDone put Each
-  held-puts o r e payload short [] h f g = h
-  held-puts o r e payload short (c ∷ cs) h f g = held-puts o r e payload short cs (held-put o r e payload short c (f .0) h (g .0)) (f .1) (g .1)
+  held-puts o r e payload [] h f g = h
+  held-puts o r e payload (c ∷ cs) h f g = held-puts o r e payload cs (held-put o r e payload c (f .0) h (g .0)) (f .1) (g .1)
 
   -- ---- "the Rx timer takes its reload value", and then the claims
 
-  pub held-accepted : {a : List ℕ} {s : State} → Held plan a s → (r : ℕ) → r < length (rowsOf plan) → (payload : List ℕ) → length payload ≤ 8
+  pub held-accepted : {a : List ℕ} {s : State} → Held plan a s → (r : ℕ) → r < length (rowsOf plan) → (payload : List ℕ)
       → Held plan (acceptedArea a r payload) (model.accepted (said plan) s r payload)
   unfolding restarted acceptedArea model.accepted
-  held-accepted {a} {s} h r l payload short =
+  held-accepted {a} {s} h r l payload =
       rw (h .reads .rx r l .claims, h .reads .rx r l .reload)
-      (held-puts (order a) r (h .reads .header .order) payload short (rowAt plan r .claims) (write-rx h r _ l) (lawful .frame r l) (lawful .bits r l))
+      (held-puts (order a) r (h .reads .header .order) payload (rowAt plan r .claims) (write-rx h r _ l) (lawful .frame r l) (lawful .bits r l))

@@ -5,7 +5,7 @@ use Prim.Native.Nat.{ℕ, _<_}
 use native.Mathlib.Omega.{arith}
 use lib.Dec.{leb, ltb}
 use lib.ListN.{length}
-use borrow.Author.Tests.{ltb-true, leb-true}
+use borrow.Author.Tests.{ltb-true}
 use Rattle.base.proofs.Picks.{picks}
 use Rattle.records.specs.declared.record.RxFrame.{RxFrame}
 use Rattle.records.specs.Records.{records}
@@ -82,7 +82,7 @@ module _ {plan a : List ℕ} {s : State} (lawful : Lawful (said plan)) (h : Held
       (chosen (Held plan) _ _ (known-is n)
       (λ k. chosen (Held plan) (leb (length payload) 8) _ refl
       (λ m. by-lookup n id (ltb-true n _ k) (λ f g. Held plan (foundArea a f payload) (model.foundState (said plan) s g payload)) h
-      (λ r l. chosen (Held plan) _ _ (size-is r l payload) (λ e. h) (λ e. held-accepted lawful h r l payload (leb-true (length payload) 8 m))))
+      (λ r l. chosen (Held plan) _ _ (size-is r l payload) (λ e. h) (λ e. held-accepted lawful h r l payload)))
       (λ m. h))
       (λ k. h))
 

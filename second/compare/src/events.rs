@@ -91,6 +91,18 @@ impl<'p> Events<'p> {
         self.reception(self.plan.rx[row].node, self.plan.rx[row].id, length, data);
     }
 
+    /// A reception that the row accepts: of the row's size, or longer.
+    pub fn accepted(&mut self, rng: &mut Rng, row: usize) {
+        let rx = &self.plan.rx[row];
+        let length = match rng.below(3) {
+            0 => 8,
+            1 => rng.from_to(usize::from(rx.size), 8) as u8,
+            _ => rx.size,
+        };
+        let data = self.data_for(rng, row);
+        self.reception(rx.node, rx.id, length, data);
+    }
+
     /// A reception of the row's size with the data sent to it before.
     pub fn repeat(&mut self, row: usize) {
         let rx = &self.plan.rx[row];

@@ -8,11 +8,11 @@ use second::bench::{handed_on, read_event, split_input, Event};
 use second::bits::Order;
 use second::gateway::{Answer, Gateway};
 use second::parse::{body_length, two_byte_number, DESTINATION, NODE, RX_FRAME, SIGNAL, TX_FRAME};
-use second::plan::Plan;
+use second::plan::{Plan, Signal};
 use second::refusal::{PlanRefusal, Refusal};
 
 use crate::shapes::Case;
-use crate::tally::{made_row, past_row, Tally, INPUT_LENGTHS, KINDS, LIMITS, PRESCALERS};
+use crate::tally::{made_row, past_row, Tally, COPIED, INPUT_LENGTHS, KINDS, LIMITS, PRESCALERS};
 
 impl Tally {
     /// Counts what this case meets.
@@ -152,6 +152,7 @@ impl Tally {
         let plan = gateway.plan();
         let rows = plan.rx_frames.iter();
         for row in rows.filter(|row| row.node == node && row.id == id) {
+            self.copied(plan.order, &row.signals);
             let destinations = row.signals.iter().flat_map(|s| &s.destinations);
             for number in destinations.map(|d| d.tx_frame) {
                 let tx = &plan.tx_frames[number];
@@ -163,6 +164,19 @@ impl Tally {
                     (false, true) if waits => self.met("sent on change, with a change"),
                     (false, true) => self.met("sent on change, without a change"),
                     _ => {}
+                }
+            }
+        }
+    }
+
+    fn copied(&mut self, order: Order, signals: &[Signal]) {
+        let [from, to, to_another_offset] = COPIED[order as usize];
+        for signal in signals {
+            for destination in &signal.destinations {
+                self.met_pair(from, signal.position, signal.size);
+                self.met_pair(to, destination.position, signal.size);
+                if signal.position % 8 != destination.position % 8 {
+                    self.met_pair(to_another_offset, destination.position, signal.size);
                 }
             }
         }

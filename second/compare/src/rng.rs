@@ -62,6 +62,12 @@ impl Rng {
         self.number().to_be_bytes()
     }
 
+    pub fn shuffle<T>(&mut self, things: &mut [T]) {
+        for place in 0..things.len() {
+            things.swap(place, self.below(things.len()));
+        }
+    }
+
     /// Parts of at most `most` each, `count` of them, that add up to `total`.
     pub fn spread(&mut self, total: usize, count: usize, most: usize) -> Vec<usize> {
         let mut parts = vec![0; count];

@@ -1,11 +1,14 @@
-//! What the cases met: a table of counts, each of which must be above 0.
+//! What the cases met: a table of counts, each of which must be above 0, and
+//! of signals copied, which must have every position and size.
 
-use std::collections::BTreeMap;
+use std::collections::{BTreeMap, BTreeSet};
 
 use crate::shapes::Shapes;
 
 pub struct Tally {
     counts: BTreeMap<String, u64>,
+    /// The pairs of each row of `COPIED`.
+    pairs: BTreeMap<&'static str, BTreeSet<(usize, usize)>>,
 }
 
 /// The limits of a plan: their names and values.
@@ -33,6 +36,25 @@ pub const KINDS: [&str; 6] = [
     "destination",
 ];
 
+/// The pairs of a position and a size whose sum is at most 64.
+pub const PAIRS: u64 = 2080;
+
+/// The rows that count such pairs, each pair once, in big and in little order:
+/// of a source, of a destination, and of a destination whose source begins at
+/// another bit of its byte.
+pub const COPIED: [[&str; 3]; 2] = [
+    [
+        "pairs copied from, big order",
+        "pairs copied to, big order",
+        "pairs copied to another offset, big order",
+    ],
+    [
+        "pairs copied from, little order",
+        "pairs copied to, little order",
+        "pairs copied to another offset, little order",
+    ],
+];
+
 /// The sections of the table: a heading, and the rows in their order.
 fn sections() -> Vec<(&'static str, Vec<String>)> {
     vec![
@@ -41,6 +63,10 @@ fn sections() -> Vec<(&'static str, Vec<String>)> {
         ("event lines", event_lines()),
         ("plans", plans()),
         ("events", events()),
+        (
+            "pairs of a position and a size of a signal, of 2080",
+            copied(),
+        ),
         ("how the inputs were made", made()),
     ]
 }
@@ -126,6 +152,11 @@ fn events() -> Vec<String> {
     rows
 }
 
+/// One order in each column.
+fn copied() -> Vec<String> {
+    COPIED.concat().into_iter().map(String::from).collect()
+}
+
 /// The row of each shape, each once.
 fn made() -> Vec<String> {
     let mut rows: Vec<String> = Vec::new();
@@ -146,6 +177,7 @@ pub fn made_row(shape: &str) -> String {
         Some(("records", what)) if what.starts_with("kind ") => "records: one inserted",
         Some(("input", what)) if what.starts_with("reception cut") => "input: reception cut",
         Some(("records" | "input", _)) => shape,
+        Some(("copies", _)) => "signals of every position and size",
         Some(("field", _)) => "a field at or past the end of its range",
         Some(("follower", _)) => "a missing or bad follower",
         Some(("owners", _)) => "bits with two owners, or nearly",
@@ -158,6 +190,16 @@ pub fn made_row(shape: &str) -> String {
 
 fn rows() -> Vec<String> {
     sections().into_iter().flat_map(|(_, rows)| rows).collect()
+}
+
+/// How often a row must be met. That a source of another offset comes to each
+/// destination is left to chance.
+fn least_count(row: &str) -> u64 {
+    let mut sides = COPIED.iter().flat_map(|[from, to, _]| [from, to]);
+    match sides.any(|side| *side == row) {
+        true => PAIRS,
+        false => 1,
+    }
 }
 
 pub fn past_row(what: &str, limit: usize) -> String {
@@ -174,6 +216,7 @@ impl Tally {
     pub fn new() -> Tally {
         Tally {
             counts: rows().into_iter().map(|row| (row, 0)).collect(),
+            pairs: BTreeMap::new(),
         }
     }
 
@@ -186,20 +229,32 @@ impl Tally {
         }
     }
 
+    /// Counts the pair for a row of `COPIED`, where it counts once.
+    pub fn met_pair(&mut self, row: &'static str, position: usize, size: usize) {
+        self.pairs.entry(row).or_default().insert((position, size));
+    }
+
     pub fn count(&self, row: &str) -> u64 {
-        self.counts.get(row).copied().unwrap_or(0)
+        match self.pairs.get(row) {
+            Some(pairs) => pairs.len() as u64,
+            None => self.counts.get(row).copied().unwrap_or(0),
+        }
     }
 
     pub fn add(&mut self, other: &Tally) {
         for (row, count) in &other.counts {
             *self.counts.entry(row.clone()).or_insert(0) += count;
         }
+        for (row, pairs) in &other.pairs {
+            self.pairs.entry(row).or_default().extend(pairs);
+        }
     }
 
-    /// The rows that were never met.
+    /// The rows that were never met, and those that lack one of their pairs.
     pub fn never_met(&self) -> Vec<String> {
         let rows = rows().into_iter();
-        rows.filter(|row| self.count(row) == 0).collect()
+        rows.filter(|row| self.count(row) < least_count(row))
+            .collect()
     }
 
     /// The sections, each in two columns.

@@ -3,9 +3,11 @@
 
 use std::collections::BTreeSet;
 
+use compare::events::Events;
 use compare::rng::Rng;
-use compare::shapes::Shapes;
-use compare::tally::Tally;
+use compare::shapes::{Case, Shapes};
+use compare::spec::{Destination, Plan, Rx, Signal, Tx};
+use compare::tally::{Tally, COPIED};
 
 #[test]
 fn a_thousand_cases_meet_every_row_for_any_seed() {
@@ -17,6 +19,73 @@ fn a_thousand_cases_meet_every_row_for_any_seed() {
         }
         assert_eq!(tally.never_met(), Vec::<String>::new(), "seed {seed}");
     }
+}
+
+#[test]
+fn a_round_copies_from_and_to_every_position_and_size() {
+    let shapes = Shapes::all();
+    let pairs = (1..=64).map(|size| 65 - size).sum();
+    for seed in [0, 1, u64::MAX] {
+        let mut tally = Tally::new();
+        for index in 0..shapes.count() as u64 {
+            tally.observe(&shapes.case(shapes.case_seed(seed, index)));
+        }
+        for [from, to, _] in COPIED {
+            assert_eq!(tally.count(from), pairs, "seed {seed}: {from}");
+            assert_eq!(tally.count(to), pairs, "seed {seed}: {to}");
+        }
+    }
+}
+
+/// A row of two bytes: a signal with a destination at its own offset and two
+/// at others, and a signal without destinations.
+fn three_destinations() -> Plan {
+    let to = |position| Destination { tx: 0, position };
+    let signal = |position, destinations| Signal {
+        position,
+        size: 5,
+        destinations,
+    };
+    let mut row = Rx::quiet(0, 7, 2);
+    row.signals = vec![
+        signal(2, vec![to(10), to(17), to(24)]),
+        signal(3, Vec::new()),
+    ];
+    Plan {
+        order: 1,
+        nodes: 1,
+        tx: vec![Tx::quiet(0, 0, 8)],
+        rx: vec![row],
+    }
+}
+
+#[test]
+fn pairs_count_once_and_where_a_reception_is_accepted() {
+    let plan = three_destinations();
+    let tally_of = |length| {
+        let mut events = Events::new(&plan);
+        events.reception(0, 7, length, [1; 8]);
+        events.reception(0, 7, length, [2; 8]);
+        let mut tally = Tally::new();
+        tally.observe(&Case {
+            seed: 0,
+            shape: "small plan".to_string(),
+            input: plan.input(&events.bytes),
+        });
+        tally
+    };
+    let counts = |tally: &Tally| COPIED.map(|rows| rows.map(|row| tally.count(row)));
+    assert_eq!(counts(&tally_of(1)), [[0; 3]; 2]);
+    assert_eq!(counts(&tally_of(2)), [[0; 3], [1, 3, 2]]);
+    let mut tally = Tally::new();
+    tally.add(&tally_of(2));
+    tally.add(&tally_of(8));
+    assert_eq!(counts(&tally), [[0; 3], [1, 3, 2]]);
+    // One pair of all is not enough; of the last row it is.
+    let never_met = tally.never_met();
+    let [from, to, to_another_offset] = COPIED[1].map(String::from);
+    assert!(never_met.contains(&from) && never_met.contains(&to));
+    assert!(!never_met.contains(&to_another_offset));
 }
 
 #[test]

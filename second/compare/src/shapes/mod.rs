@@ -5,6 +5,7 @@
 //! the random choices inside the shape. So each shape comes once in a round of
 //! the list, whatever the seed of the run.
 
+mod copies;
 mod fields;
 mod followers;
 mod general;
@@ -50,6 +51,7 @@ impl Shapes {
     pub fn all() -> Shapes {
         let mut special = Vec::new();
         special.extend(showcase::shapes());
+        special.extend(copies::shapes());
         special.extend(limits::shapes());
         special.extend(fields::shapes());
         special.extend(followers::shapes());

@@ -142,9 +142,7 @@ fn waiting_by_receptions(rng: &mut Rng, count: usize) -> Vec<u8> {
         plan.tx.push(tx);
     }
     let mut order: Vec<u16> = (0..count as u16).collect();
-    for place in 0..count {
-        order.swap(place, rng.below(count));
-    }
+    rng.shuffle(&mut order);
     let mut row = Rx::quiet(0, 5, 1);
     for part in order.chunks(rng.from_to(5, 15)) {
         let position = rng.below(8) as u8;

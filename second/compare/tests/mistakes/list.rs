@@ -182,6 +182,30 @@ pub const MISTAKES: &[Mistake] = &[
         )],
     ),
     mistake(
+        "a change judged by the last byte",
+        &[(
+            "bits.rs",
+            "        if get(order, destination, q + k) != value {\n",
+            "        if get(order, destination, q + k) != value && (q + k) / 8 == (q + s - 1) / 8 {\n",
+        )],
+    ),
+    mistake(
+        "one position and size copied a bit short",
+        &[(
+            "bits.rs",
+            "    for k in 0..s {\n",
+            "    for k in 0..s - usize::from((p, s) == (11, 50)) {\n",
+        )],
+    ),
+    mistake(
+        "one position and size put a bit short",
+        &[(
+            "bits.rs",
+            "    for k in 0..s {\n",
+            "    for k in 0..s - usize::from((q, s) == (23, 38)) {\n",
+        )],
+    ),
+    mistake(
         "send on change without a change",
         &[(
             "gateway.rs",

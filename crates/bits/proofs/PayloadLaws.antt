@@ -4,9 +4,9 @@ use mathlib.Core.Path.{_≡_, refl}
 use mathlib.Core.Logic.{_≢_}
 use mathlib.Core.List.{List}
 use Prim.Native.Nat.{ℕ, zero, suc, _+_, _-_, _*_, _/_, _%_, _<_}
-use native.Mathlib.Decide.{ℕ-discrete}
+use native.Mathlib.Decide.{decLt, ℕ-discrete}
 use native.Mathlib.Omega.{arith}
-use lib.ListN.{length, getD, length-set}
+use lib.ListN.{length, getD, set, length-set, List·getD-eq-default}
 use lib.Seq.{getD-set-same, getD-set-other, ext-getD}
 use Rattle.bits.specs.Payload.{digitOf, bitAt, setBit}
 use Rattle.bits.proofs.DigitLaws.{digit-lt, digit-set-same, digit-set-other, setDigit-lt, same-digits}
@@ -81,16 +81,20 @@ bitAt-setBit-other order s p v q h hv d = go (ℕ-discrete (q / 8) (p / 8))
 abbrev pub Bytes : List ℕ → Type 0
 Bytes s = (i : ℕ) → getD s i 0 < 256
 
+pub bytes-set : (s : List ℕ) (at v : ℕ) → v < 256 → Bytes s → Bytes (set s at v)
+bytes-set s at v h b i = go (ℕ-discrete i at) (decLt at (length s))
+  where
+    go : Dec (i ≡ at) → Dec (at < length s) → getD (set s at v) i 0 < 256
+    go (no d) l = rw (getD-set-other) (b i)
+    go (yes d) (yes l) = rw (d, getD-set-same) h
+    go (yes d) (no l) =
+        let past : getD (set s at v) i 0 ≡ 0 = List·getD-eq-default (set s at v) 0 (omega (arith, length-set s at v)) in
+        omega arith
+
 pub bytes-setBit : (order : ℕ) (s : List ℕ) (p v : ℕ) → p < 8 * length s → v < 2 → Bytes s → Bytes (setBit order s p v)
 unfolding setBit
-bytes-setBit order s p v h hv b i = go (ℕ-discrete i (p / 8))
-  where
-    l : p / 8 < length s
-    l = omega arith
-
-    go : Dec (i ≡ p / 8) → getD (setBit order s p v) i 0 < 256
-    go (yes e) = rw (e, getD-set-same, l) (setDigit-lt 8 (getD s (p / 8) 0) (digitOf order p) v (digitOf-lt order p) hv (b (p / 8)))
-    go (no e) = rw (getD-set-other) (b i)
+bytes-setBit order s p v h hv b =
+    bytes-set s (p / 8) _ (setDigit-lt 8 (getD s (p / 8) 0) (digitOf order p) v (digitOf-lt order p) hv (b (p / 8))) b
 
 -- ---- two payloads of one length that agree in every bit are equal
 

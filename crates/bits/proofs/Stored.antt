@@ -10,7 +10,7 @@ use native.Mathlib.Decide.{decLt, ℕ-discrete}
 use native.Mathlib.Omega.{arith}
 use borrow.Author.Tests.{eq-eqb, ne-eqb}
 use lib.Dec.{eqb}
-use lib.ListN.{length, getD, set, length-set, List·getD-eq-default}
+use lib.ListN.{length, getD, set, length-set}
 use lib.Pow.{shr-lt}
 use lib.Seq.{getD-set-same, getD-set-other, set-getD}
 use Rattle.bits.specs.Digit.{digit}
@@ -18,7 +18,7 @@ use Rattle.bits.specs.Payload.{digitOf, bitAt, copied, differs}
 use Rattle.bits.specs.Word.{lowFirst, madeUp, bytesStored}
 use Rattle.bits.proofs.DigitLaws.{same-digits}
 use Rattle.bits.proofs.ShiftLaws.{none-at, digit-down, digit-mod, digit-high}
-use Rattle.bits.proofs.PayloadLaws.{Bytes, digitOf-lt, positionOf, position-byte, position-digit}
+use Rattle.bits.proofs.PayloadLaws.{Bytes, bytes-set, digitOf-lt, positionOf, position-byte, position-digit}
 use Rattle.bits.proofs.CopyLaws.{copied-only, differs-exactly}
 use Rattle.bits.proofs.MadeUp.{madeUp-new, madeUp-kept, madeUp-same}
 use Rattle.bits.proofs.WordLaws.{inMemory, same-place, lowFirst-lt, lowFirst-bit}
@@ -53,16 +53,6 @@ stored-digit (suc n) kept at number (suc j) d h l m =
     let k : 8 * suc j + d ≡ 8 + (8 * j + d) = omega arith in
     rw (i, k) (stored-digit n _ (at + 1) (number / 256) j d (omega arith) (omega (arith, length-set kept at (number % 256))) m
     ∙ digit-down number 8 (8 * j + d))
-
-pub bytes-set : (kept : List ℕ) (at v : ℕ) → v < 256 → Bytes kept → Bytes (set kept at v)
-bytes-set kept at v h b i = go (ℕ-discrete i at) (decLt at (length kept))
-  where
-    go : Dec (i ≡ at) → Dec (at < length kept) → getD (set kept at v) i 0 < 256
-    go (no d) l = rw (getD-set-other) (b i)
-    go (yes d) (yes l) = rw (d, getD-set-same) h
-    go (yes d) (no l) =
-        let past : getD (set kept at v) i 0 ≡ 0 = List·getD-eq-default (set kept at v) 0 (omega (arith, length-set kept at v)) in
-        omega arith
 
 bytes-stored : (n : ℕ) (kept : List ℕ) (at number : ℕ) → Bytes kept → Bytes (bytesStored n kept at number)
 unfolding bytesStored

@@ -6,9 +6,9 @@ use native.Mathlib.Omega.{arith}
 use borrow.Author.Needs.{needs}
 use lib.ListN.{length, length-set}
 use Rattle.bits.specs.Word.{bytesStored}
-use Rattle.bits.proofs.Stored.{KeptElsewhere, bytes-set, some-left, less-left, kept-on, stored-end}
+use Rattle.bits.proofs.Stored.{KeptElsewhere, some-left, less-left, kept-on, stored-end}
 use Rattle.bits.proofs.MadeUp.{madeUp-lt, madeUp-kept}
-use Rattle.bits.proofs.PayloadLaws.{Bytes}
+use Rattle.bits.proofs.PayloadLaws.{Bytes, bytes-set}
 use Rattle.bits.proofs.signal.put_bytes.Statement.{statement}
 use Rattle.bits.proofs.signal.put_bytes.Tie as tie
 use Rattle.bits.proofs.signal.put_bytes.Reads as reads

@@ -83,6 +83,7 @@ uint64_t CALL(receive)(uint8_t *area, size_t area_length, size_t node, uint32_t 
     struct source source;
     load(&source, payload, rx->size, g->order);
     rx->timer.count = rx->timer.reload;
+    rx->long_count = rx->long_reload;
     if (rx->failure_position != NO_INDICATOR)
         assign_failure(g, rx, 0);
     copy_signals(g, rx, &source);

@@ -24,14 +24,14 @@ extern "C" {
 
 /* What a reception that is not refused answers. */
 
-/* accepted: the frame's signals are copied and its timer starts again */
+/* accepted: the frame's signals are copied, and its timer and long counter start again */
 #define GATEWAY_ACCEPTED 0
 /* a frame with no matching row: nothing changes */
 #define GATEWAY_NO_ROW 1
 /* a payload shorter than the row's size: nothing changes */
 #define GATEWAY_TOO_SHORT 2
 
-/* The bytes of a report: 0 says nothing, and these a timeout of the Rx frame. */
+/* The bytes of a report: 0 says nothing, and these a timeout of the Rx frame; a long one comes after as many in a row as its long count. */
 #define GATEWAY_SHORT_TIMEOUT 1
 #define GATEWAY_LONG_TIMEOUT 2
 

@@ -35,7 +35,14 @@ says 'a zero timer stands still' "$head $node $tx $rx 05 00 08 06 0000 00" '11 1
 says 'a zero long count is no long timeout' "$head $node 04 00 0020 01 01 01 01 00 00 00" '11 11 11' 'plan ok 1 0 1/tick 1/tick 1/tick 1'
 says 'the Rx timer takes its reload value' "$head $node 04 00 0020 01 01 02 02 00 00 00" "11 $got 11 $got 11 11" \
     'plan ok 1 0 1/tick 0/rx 0/tick 0/rx 0/tick 0/tick 1'
-says 'the long counter moves at expiries only' "$head $node 04 00 0020 01 01 01 01 00 00 02" "11 $got 11" 'plan ok 1 0 1/tick 1/rx 0/tick 2'
+
+# Ticket 1, on rows that expire at each tick
+row='04 00 0020 01 01 01 01 00 00 02'; next='04 00 0021 01 01 01 01 00 00 02'; short='10 00 0020 00 0000000000000000'
+says 'the long counter starts again at an acceptance' "$head $node $row" "11 $got 11 11 11" 'plan ok 1 0 1/tick 1/rx 0/tick 1/tick 2/tick 1'
+says 'a payload that is too short starts nothing again' "$head $node $row" "11 $short 11" 'plan ok 1 0 1/tick 1/rx 2/tick 2'
+says 'a refused reception starts nothing again' "$head $node $row" '11 10 00 0020 09 0000000000000000 11' 'plan ok 1 0 1/tick 1/rx refused 13/tick 2'
+says 'a reception without a row starts nothing again' "$head $node $row" '11 10 00 0021 01 2c00000000000000 11' 'plan ok 1 0 1/tick 1/rx 1/tick 2'
+says 'an acceptance starts its own row alone again' "$head $node $row $next" "11 $got 11 11" 'plan ok 1 0 2/tick 1 1/rx 0/tick 1 2/tick 2 1'
 
 # the same Tx frame on a period of three ticks
 tx="03 00 0100 02 01 03 03 01 $none"

@@ -118,6 +118,12 @@ int main(int count, char **arguments)
     expect("nothing waits on node 0", gateway_take(area, GATEWAY_AREA_SIZE, 0), 0);
     frames();
 
+    expect("accepted after a timeout", gateway_receive(area, GATEWAY_AREA_SIZE, 0, 0x20, payload, 1), GATEWAY_ACCEPTED);
+    gateway_tick(area, GATEWAY_AREA_SIZE, report, sizeof report);
+    expect("the next timeout is the first in a row", report[0], GATEWAY_SHORT_TIMEOUT);
+    gateway_tick(area, GATEWAY_AREA_SIZE, report, sizeof report);
+    expect("a long timeout, two in a row", report[0], GATEWAY_LONG_TIMEOUT);
+
     printf(wrong == 0 ? "ok\n" : "wrong\n");
     return wrong != 0;
 }

@@ -5,7 +5,7 @@ from itertools import zip_longest
 
 from view.records import EVENTS, RECORDS, Plan, digits_of, records
 from view.refused import cause
-from view.words import NO_LINE, answer_words, bad_event, clean, count, event_words, reason, record_words
+from view.words import NO_LINE, answer_words, bad_event, clean, count, count_timeouts, event_words, reason, record_words
 
 # The widths of the columns: each row makes 120 with the gaps. That of the record numbers grows with them.
 PLAN = (3, 42, 71)
@@ -101,7 +101,7 @@ def show_events(part, plan, lines):
         else:
             rows.append([event, line, 1])
     heading(SHORT_ANSWER, 'event', 'in words', 'answer', 'in words')
-    tick = 0
+    tick, in_a_row = 0, {}
     for event, line, times in rows:
         notes(part, event.place, '\n' if event.place else '')
         digits = clean(digits_of(event), CUT) + f' ({times} times)' * (times > 1)
@@ -110,7 +110,8 @@ def show_events(part, plan, lines):
         if line == BAD and event.fields is None:
             meaning = [f'the run ends here{part.line(event.place)}: {bad_event(event)}']
         else:
-            meaning = answer_words(plan, line)
+            count_timeouts(plan, event, line, in_a_row)
+            meaning = answer_words(plan, line, in_a_row)
         if len(line) <= SHORT_ANSWER[2]:
             row(SHORT_ANSWER, digits, words, clean(line), '\n'.join(meaning))
         else:

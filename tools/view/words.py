@@ -114,7 +114,18 @@ def bad_event(event):
     return cut_short(event.kind, EVENTS, there) if event.kind in EVENTS else unknown_kind(event.kind, EVENTS)
 
 
-def answer_words(plan, line):
+def count_timeouts(plan, event, line, in_a_row):
+    """Counts how many timeouts of each Rx frame came in a row: its acceptance begins anew."""
+    if line == 'rx 0':
+        for number, frame in enumerate(plan.rx):
+            if (frame.node, frame.id) == (event.fields['node'], event.fields['ID']):
+                in_a_row[number] = 0
+    elif re.fullmatch('tick( [0-2])*', line):
+        for number, byte in enumerate(line.split()[1:]):
+            in_a_row[number] = in_a_row.get(number, 0) + (byte != '0')
+
+
+def answer_words(plan, line, in_a_row):
     """A line of the program that answers an event, as a list of lines."""
     if line in ANSWERS:
         return [ANSWERS[line]]
@@ -124,12 +135,19 @@ def answer_words(plan, line):
     if rest[:1] == ['refused']:
         return [reason(rest[1]) + (f': {numbered(plan.nodes, "node")}' if rest[1] == '12' else '')]
     if word == 'tick':
-        timeouts = [(number, frame, byte) for number, (frame, byte) in enumerate(zip(plan.rx, rest)) if byte != '0']
-        return [f'{["short", "long"][byte == "2"]} timeout: Rx frame {number} ({key(frame)})'
-                for number, frame, byte in timeouts] or ['no timeout']
+        return list(timeouts(plan, rest, in_a_row)) or ['no timeout']
     tx, id_, _, payload, waiting = rest
     after = {'0': 'none waits', '1': '1 waits'}.get(waiting, f'{waiting} wait')
     return [f'Tx frame {tx} (ID 0x{int(id_):03x}), {after} after it', *values_in(plan, int(tx), bytes.fromhex(payload.strip('-')))]
+
+
+def timeouts(plan, report, in_a_row):
+    """What a report says."""
+    for number, (frame, byte) in enumerate(zip(plan.rx, report)):
+        if byte != '0':
+            yield f'{"long" if byte == "2" else "short"} timeout: Rx frame {number} ({key(frame)})'
+            if in_a_row[number] > 1:
+                yield f'    {in_a_row[number]} in a row'
 
 
 def values_in(plan, tx, payload):

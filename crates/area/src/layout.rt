@@ -85,6 +85,13 @@ pub fn in_range(t: TxNumber) -> TxNumber
     TxNumber(t.0 % 256)
 }
 
+// The number of a row that was found, brought into range: a plan has at most 256.
+pub fn row_in_range(r: RxNumber) -> RxNumber
+    ensures { λ x. ⌜ (x .0 ≡ r .0 % 256) × (x .0 < 256) ⌝ }
+{
+    RxNumber(r.0 % 256)
+}
+
 // A size, brought into range.
 pub fn in_width(size: usize) -> usize
     ensures { λ r. ⌜ (r ≡ inWidth size) × (r < 16) ⌝ }

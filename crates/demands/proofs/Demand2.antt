@@ -3,7 +3,8 @@ use Rattle.model.proofs.Meets.{model-meets}
 use Rattle.model.proofs.Decide.{rules-decide}
 use Rattle.model.proofs.RxExpiry.{rx-expiry}
 use Rattle.model.proofs.TxExpiry.{tx-expiry}
-use Rattle.model.proofs.Listing.{listing-answered}
+use Rattle.model.proofs.Listing.{listing-answered, gaps-answered}
+use Rattle.history.proofs.LongTimeouts.{long-timeouts}
 use Rattle.refines.proofs.All.{as-the-model}
 use Rattle.refines.proofs.Listing.{listing-on-bytes}
 use Rattle.demands.proofs.Texts.{texts}
@@ -18,6 +19,8 @@ demand-2 =
       as-the-model = as-the-model;
       rx-expiry = rx-expiry;
       tx-expiry = tx-expiry;
+      long-timeouts = long-timeouts;
+      gaps = gaps-answered;
       listing = listing-answered;
       on-bytes = listing-on-bytes;
     }

@@ -1,8 +1,11 @@
 -- Demand 2: "Lookup, signal copy, timers, failure bits, timeout reports, sending order and every count answered are exactly the rules of Freescale
--- AN3333 as document 01 states them: each rule's case is acted on, and nothing else is."
+-- AN3333 as document 01 states them: each rule's case is acted on, and nothing else is." And, of document 02, Ticket 1: "The long counter must start
+-- again at every accepted reception, so that a long timeout means that many expiries in a row."
 use Rattle.model.specs.Rules.{ModelMeets, RulesDecide}
 use Rattle.model.specs.Timers.{RxExpiry, TxExpiry}
 use Rattle.model.specs.Listing.{ListingAnswered}
+use Rattle.model.specs.ShortGaps.{GapsAnswered}
+use Rattle.history.specs.LongTimeouts.{LongTimeouts}
 use Rattle.refines.specs.Shows.{AsTheModel}
 use Rattle.refines.specs.Listing.{ListingOnBytes}
 use Rattle.demands.specs.Texts.{Texts}
@@ -18,6 +21,9 @@ pub record Demand2 : Type 0 where
   -- "Thus a timer loaded with v above 0 expires at its v-th handling, unless loaded again first."
   pub rx-expiry : RxExpiry
   pub tx-expiry : TxExpiry
+  -- "a long timeout means that many expiries in a row": over any calls, from what the caller sees, and as a case
+  pub long-timeouts : LongTimeouts
+  pub gaps : GapsAnswered
   -- document 01's listing, of the model and of the bytes
   pub listing : ListingAnswered
   pub on-bytes : ListingOnBytes

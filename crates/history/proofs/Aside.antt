@@ -2,6 +2,7 @@
 use mathlib.Core.Bool.{Bool}
 use mathlib.Core.List.{List, [], _∷_}
 use Prim.Native.Nat.{ℕ, zero, suc, _<_, _≤_}
+use native.Mathlib.Nat.{mod-eq-of-lt}
 use native.Mathlib.Omega.{arith}
 use lib.Dec.{ltb}
 use lib.ListN.{set}
@@ -12,23 +13,25 @@ use Rattle.base.proofs.Ranges.{at-most-le}
 use Rattle.plan.specs.Rows.{Claim}
 use Rattle.facts.specs.Good.{Each}
 use Rattle.facts.specs.Statements.{Small}
-use Rattle.area.specs.Layout.{txTimersStart, longStart, fullStart, payloadsStart, txMasksStart, nodeCountByte, txReload, txTimer, waits, nodeCount}
+use Rattle.area.specs.Layout.{txTimersStart, longStart, waitsStart, fullStart, payloadsStart, txMasksStart, nodeCountByte}
+use Rattle.area.specs.Layout.{txReload, txTimer, rxTimer, long, waits, nodeCount}
 use Rattle.area.specs.Queue.{scheduled, oldest, dequeued}
 use Rattle.area.specs.Claims.{RxEvent, sentIf, allDone}
 use Rattle.area.proofs.Frame.{Same, NoEnds, NoRing, Off, same-refl, same-then, same-set, same-pick}
 use Rattle.area.proofs.Frame.{same-scheduled, same-sentIf, same-dequeued, same-done}
+use Rattle.reception.specs.Reception.{restarted}
 use Rattle.ticking.specs.Tick.{timed, txTick, txTicks, longLowered}
 use Rattle.taking.specs.Taken.{oldestArea, takenArea}
 
--- P names no end of a queue and no ring entry, no timer, no long counter and no wait
+-- P names no end of a queue and no ring entry, no timer and no wait
 pub record Aside (P : ℕ → Type 0) : Type 0 where
   pub ends : (n : ℕ) → n < 16 → NoEnds P n
   pub ring : NoRing P
   pub timers : (j : ℕ) → txTimersStart ≤ j → j < longStart → P j → ⊥
-  pub low : (j : ℕ) → longStart ≤ j → j < fullStart → P j → ⊥
+  pub waits : (j : ℕ) → waitsStart ≤ j → j < fullStart → P j → ⊥
 
 module _ {P : ℕ → Type 0} (f : Aside P) where
-  -- ---- timers
+  -- ---- timers and long counters
 
   pub aside-count : (a : List ℕ) (at v : ℕ) → txTimersStart ≤ at → at < longStart → Same P a (set a at v)
   aside-count a at v l m = same-set _ _ (f .timers at l m) (same-refl a)
@@ -37,14 +40,18 @@ module _ {P : ℕ → Type 0} (f : Aside P) where
   unfolding timed
   aside-timed a reload at l m = aside-count a at _ l m
 
-  pub aside-long : (a : List ℕ) (r : ℕ) → r < 256 → Same P a (longLowered a r)
+  pub aside-long : (a : List ℕ) (r : ℕ) → (P (long r) → ⊥) → Same P a (longLowered a r)
   unfolding longLowered
-  aside-long a r h = same-set _ _ (f .low _ (omega arith) (omega arith)) (same-refl a)
+  aside-long a r never = same-set _ _ never (same-refl a)
+
+  pub aside-restarted : (a : List ℕ) (r : ℕ) → r < 256 → (P (long r) → ⊥) → Same P a (restarted a r)
+  unfolding restarted
+  aside-restarted a r h never = rw (mod-eq-of-lt h) (same-set _ _ never (aside-count a (rxTimer r) _ (omega arith) (omega arith)))
 
   -- ---- queues
 
   wait : (t : ℕ) → t < 256 → P (waits t) → ⊥
-  wait t h = f .low _ (omega arith) (omega arith)
+  wait t h = f .waits _ (omega arith) (omega arith)
 
   timer : (t : ℕ) → t < 256 → P (txTimer t) → ⊥
   timer t h = f .timers _ (omega arith) (omega arith)

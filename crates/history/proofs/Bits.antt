@@ -61,7 +61,7 @@ payload-aside =
       ends = λ n h j l m p. omega arith;
       ring = λ j l m p. omega arith;
       timers = λ j l m p. omega arith;
-      low = λ j l m p. omega arith;
+      waits = λ j l m p. omega arith;
     }
 
 -- an event of another frame leaves an owner's bit

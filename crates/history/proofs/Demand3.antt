@@ -1,6 +1,6 @@
 -- Demand 3: after any calls on any area, every kept payload bit equals the bit worked out afresh from the history since the last successful
 -- opening, every table still says what the plan says, and each call alters only its own bits.
-use mathlib.Core.Path.{_≡_, refl, sym, ap, _∙_}
+use mathlib.Core.Path.{_≡_, _∙_}
 use mathlib.Core.List.{List, [], _++_}
 use mathlib.Core.Option.{some}
 use Prim.Native.Nat.{ℕ, _<_}
@@ -11,48 +11,33 @@ use Rattle.plan.specs.Rows.{txOf, orderIn}
 use Rattle.facts.specs.Good.{GoodPlan}
 use Rattle.area.specs.Claims.{RxEvent}
 use Rattle.tables.specs.Reads.{initial, Reads, Begun}
-use Rattle.model.specs.Calls.{Step, opening, reception, tick, take, fullness, call}
-use Rattle.history.specs.Calls.{areaAfter, stepped, afterIn}
+use Rattle.model.specs.Calls.{Step}
+use Rattle.history.specs.Calls.{stepped, afterIn}
 use Rattle.history.specs.Past.{told, pastOf}
 use Rattle.history.specs.Fresh.{owner, fresh}
 use Rattle.history.specs.Statements.{keptBit, EveryBitFresh, PlanStays, CallsAlterTheirs}
 use Rattle.history.proofs.Later.{Later}
-use Rattle.history.proofs.Replay.{replay, replay-append, replay-fresh}
+use Rattle.history.proofs.Replay.{turned, replay, replay-fresh}
 use Rattle.history.proofs.Always.{Held, always}
-use Rattle.history.proofs.Ticks.{tick-turns}
-use Rattle.history.proofs.Receptions.{reception-turns}
-use Rattle.history.proofs.Only.{taken-leaves, only-theirs}
-
--- a bit of value v after some events, by the plan
-abbrev replayed : List ℕ → ℕ → ℕ → List RxEvent → ℕ → ℕ
-replayed plan t b log v = replay (orderIn (records plan)) (owner plan t b) log v
+use Rattle.history.proofs.Owned.{bit-turns}
+use Rattle.history.proofs.Steps.{turns-on}
+use Rattle.history.proofs.Only.{only-theirs}
 
 -- each bit is what the events since the opening have made of it, one after the other
 abbrev Replayed : List ℕ → List RxEvent → List ℕ → Type 0
-Replayed plan log a = (t b : ℕ) → t < length (txOf plan) → b < 64 → keptBit plan a t b ≡ replayed plan t b log (initial plan t b)
+Replayed plan log a =
+    (t b : ℕ) → t < length (txOf plan) → b < 64
+    → keptBit plan a t b ≡ replay (turned (orderIn (records plan)) (owner plan t b)) log (initial plan t b)
 
 begins : (plan a : List ℕ) → GoodPlan plan → Reads plan a → Begun plan a → Replayed plan [] a
 unfolding replay
 begins plan a good reads begun t b h l = rw (reads .header .order) at (begun .payload t b h l)
 
-after-turns :
-    (plan : List ℕ) → GoodPlan plan → (t b : ℕ) → t < 256 → b < 64 → (c : Step) → Later c → (a : List ℕ) → Reads plan a
-    → keptBit plan (stepped a c) t b ≡ replayed plan t b (told (some plan) c a) (keptBit plan a t b)
-unfolding areaAfter stepped told replay
-after-turns plan good t b frame small (opening p) later a reads = absurd later
-after-turns plan good t b frame small (call (reception n id payload)) later a reads =
-    reception-turns plan good t b frame small a reads n id payload
-after-turns plan good t b frame small (call (tick report)) later a reads = tick-turns plan good t b frame small a report reads
-after-turns plan good t b frame small (call (take n)) later a reads = taken-leaves _ t b frame small a n
-after-turns plan good t b frame small (call (fullness x)) later a reads = refl
-
 goes-on :
     (plan : List ℕ) → GoodPlan plan → (log : List RxEvent) (c : Step) → Later c → (a : List ℕ) → Reads plan a → Replayed plan log a
     → Replayed plan (log ++ told (some plan) c a) (stepped a c)
 goes-on plan good log c later a reads bits t b h l =
-    after-turns plan good t b (omega (arith, good .counts .tx)) l c later a reads
-    ∙ ap (replayed plan t b (told (some plan) c a)) (bits t b h l)
-    ∙ sym (replay-append (orderIn (records plan)) (owner plan t b) log (told (some plan) c a) (initial plan t b))
+    turns-on good (bit-turns plan good t b (omega (arith, good .counts .tx)) l) (initial plan t b) log c later a reads (bits t b h l)
 
 known :
     (a : List ℕ) (calls : List Step) (plan : List ℕ) → pastOf calls a .plan ≡ some plan

@@ -9,11 +9,11 @@ use Rattle.base.proofs.Ranges.{at-most-le}
 use Rattle.records.specs.declared.record.RxNumber.{RxNumber}
 use Rattle.plan.specs.Rows.{rowsOf, noRow}
 use Rattle.facts.specs.Good.{GoodPlan}
-use Rattle.area.specs.Layout.{nodeCountByte, txCountBytes, rxReload, rxTimer, counter, order, txCount, rxCount, firstRow, rowCount, claims}
+use Rattle.area.specs.Layout.{nodeCountByte, txCountBytes, payloadsStart, txMasksStart, rxReload, rxTimer, counter, order, txCount, rxCount, firstRow, rowCount, claims}
 use Rattle.area.specs.Claims.{RxEvent, expired, allDone}
 use Rattle.area.proofs.Frame.{Same, same-refl, same-then, same-set, same-pick}
 use Rattle.reception.specs.Lookup.{lookedUp}
-use Rattle.reception.specs.Reception.{restarted, acceptedArea, receivedArea}
+use Rattle.reception.specs.Reception.{acceptedArea, receivedArea}
 use Rattle.reception.proofs.Search.{found-among}
 use Rattle.reception.proofs.ReceptionLaws.{For, by-answer as by-received}
 use Rattle.ticking.specs.Tick.{expiredArea, rxTick, rxTicks, ticked, tickAnswer}
@@ -21,9 +21,9 @@ use Rattle.ticking.proofs.TickLaws.{by-answer as by-ticked}
 use Rattle.tables.specs.Reads.{Reads}
 use Rattle.model.specs.Calls.{Step, opening, reception, tick, take, fullness, call}
 use Rattle.history.specs.Calls.{areaAfter, stepped}
-use Rattle.history.proofs.Aside.{aside-count, aside-timed, aside-long, aside-taken, aside-txTicks, aside-allDone}
+use Rattle.history.proofs.Aside.{Aside, aside-restarted, aside-timed, aside-long, aside-taken, aside-txTicks, aside-allDone}
 use Rattle.facts.proofs.ByNumber.{row-small}
-use Rattle.history.proofs.Steady.{Steady, steady-aside, reads-steady}
+use Rattle.history.proofs.Steady.{Steady, steady-aside, steady-long, reads-steady}
 
 -- a call that is no opening
 abbrev pub Later : Step → Type 0
@@ -44,16 +44,21 @@ module _ (plan : List ℕ) (good : GoodPlan plan) where
       let among = found-among (rowCount a n + 1) a (rowCount a n) (firstRow a n) id r (f .found) in
       omega (arith, reads .node n (omega (arith, f .known, at-most-le 16 (byteAt a nodeCountByte))) .within)
 
-  steady-claims :
+  -- an event's claims, over places that are no payload's either
+  pub aside-claims :
+      {P : ℕ → Type 0} → Aside P → ((j : ℕ) → payloadsStart ≤ j → j < txMasksStart → P j → ⊥) → (a b : List ℕ) → Reads plan a
+      → (e : RxEvent) (r : ℕ) → r < length (rowsOf plan) → Same P b (allDone (order a) e (claims a r) b)
+  aside-claims f payloads a b reads e r h =
+      aside-allDone f payloads (order a) e (claims a r) b (rw (reads .rx r h .claims) (row-small plan good noRow r h))
+
+  pub steady-claims :
       (a b : List ℕ) → Reads plan a → (e : RxEvent) (r : ℕ) → r < length (rowsOf plan) → Same Steady b (allDone (order a) e (claims a r) b)
-  steady-claims a b reads e r h =
-      aside-allDone steady-aside (λ j l m p. p .high (omega arith) m) (order a) e (claims a r) b
-      (rw (reads .rx r h .claims) (row-small plan good noRow r h))
+  steady-claims = aside-claims steady-aside (λ j l m p. p .high (omega arith) m)
 
   pub steady-accepted : (a : List ℕ) → Reads plan a → (r : ℕ) (payload : List ℕ) → r < length (rowsOf plan) → Same Steady a (acceptedArea a r payload)
-  unfolding restarted acceptedArea
+  unfolding acceptedArea
   steady-accepted a reads r payload h =
-      same-then (aside-count steady-aside a (rxTimer r) _ (omega arith) (omega (arith, few r h))) (steady-claims a _ reads _ r h)
+      same-then (aside-restarted steady-aside a r (few r h) (steady-long r (few r h))) (steady-claims a _ reads _ r h)
 
   pub steady-received : (a : List ℕ) → Reads plan a → (n id : ℕ) (payload : List ℕ) → Same Steady a (receivedArea a n id payload)
   steady-received a reads n id payload =
@@ -62,7 +67,7 @@ module _ (plan : List ℕ) (good : GoodPlan plan) where
 
   pub steady-expired : (a : List ℕ) → Reads plan a → (r : ℕ) → r < length (rowsOf plan) → Same Steady a (expiredArea a r)
   unfolding expiredArea
-  steady-expired a reads r h = same-then (steady-claims a a reads (expired r) r h) (aside-long steady-aside _ r (few r h))
+  steady-expired a reads r h = same-then (steady-claims a a reads (expired r) r h) (aside-long steady-aside _ r (steady-long r (few r h)))
 
   pub steady-rxTick : (k : ℕ) (a : List ℕ) → Reads plan a → (r : ℕ) → r < length (rowsOf plan) → Same Steady a (rxTick k a r)
   unfolding rxTick

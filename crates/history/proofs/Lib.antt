@@ -4,9 +4,13 @@ pub mod Steady
 pub mod Later
 pub mod Always
 pub mod Replay
+pub mod Turns
 pub mod Bits
 pub mod Owned
 pub mod Ticks
 pub mod Receptions
+pub mod Steps
+pub mod Longs
+pub mod LongTimeouts
 pub mod Only
 pub mod Demand3

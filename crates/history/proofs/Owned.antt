@@ -8,16 +8,21 @@ use lib.ListN.{length, getD}
 use borrow.Author.Tests.{eq-eqb, ne-eqb}
 use Rattle.base.specs.Pick.{pick}
 use Rattle.bits.specs.Payload.{bitAt}
-use Rattle.plan.specs.Rows.{Claim, Row, rowsOf, allClaims, claimsOf, noRow}
+use Rattle.records.specs.Records.{records}
+use Rattle.plan.specs.Rows.{Claim, Row, rowsOf, allClaims, claimsOf, noRow, orderIn}
 use Rattle.facts.specs.Good.{Each, GoodPlan}
 use Rattle.area.specs.Layout.{LongEnough, spot}
-use Rattle.area.specs.Claims.{RxEvent, done, allDone}
-use Rattle.tables.specs.Reads.{rowAt}
-use Rattle.history.specs.Fresh.{owner}
+use Rattle.area.specs.Claims.{RxEvent, accepted, expired, done, allDone}
+use Rattle.reception.specs.Reception.{restarted, acceptedArea}
+use Rattle.ticking.specs.Tick.{expiredArea}
+use Rattle.tables.specs.Reads.{rowAt, Reads}
+use Rattle.history.specs.Fresh.{Owner, owner}
 use Rattle.facts.proofs.ByNumber.{claims-small}
+use Rattle.history.proofs.Aside.{aside-restarted, aside-long}
 use Rattle.history.proofs.Rows.{Of, Numbered, rows-numbered}
 use Rattle.history.proofs.Replay.{rxOf, turned}
-use Rattle.history.proofs.Bits.{doneIf, allIf, by-owner}
+use Rattle.history.proofs.Bits.{Payload, payload-aside, payload-bit, doneIf, allIf, by-owner}
+use Rattle.history.proofs.Turns.{Turns}
 
 module _ (o : ℕ) (e : RxEvent) where
   if-append : (xs ys : List Claim) (a : List ℕ) → allIf o e (xs ++ ys) a ≡ allIf o e ys (allIf o e xs a)
@@ -62,7 +67,7 @@ module _ (o : ℕ) (e : RxEvent) where
       ∙ own-row (suc n) rs (h .1) d k (omega arith) (omega arith) a
 
 -- an event of row r turns each bit by its owner
-pub row-turns :
+row-turns :
     (plan : List ℕ) → GoodPlan plan → (o t b : ℕ) → t < 256 → b < 64 → (e : RxEvent) (r : ℕ) → r < length (rowsOf plan) → r ≡ rxOf e
     → (a : List ℕ) → LongEnough a
     → bitAt o (allDone o e (rowAt plan r .claims) a) (spot t b) ≡ turned o (owner plan t b) (bitAt o a (spot t b)) e
@@ -70,3 +75,34 @@ unfolding owner claimsOf
 row-turns plan good o t b frame small e r l is a long =
     rw (← own-row o e 0 (rowsOf plan) (rows-numbered plan) noRow r l (omega arith) a)
     (by-owner o t b frame small e (claimsOf plan) a (good .once) (claims-small plan good) long)
+
+-- ---- a bit goes by the events
+
+module _ (plan : List ℕ) (good : GoodPlan plan) (t b : ℕ) (frame : t < 256) (small : b < 64) where
+  abbrev o : ℕ
+  o = orderIn (records plan)
+
+  abbrev w : Owner
+  w = owner plan t b
+
+  abbrev now : List ℕ → ℕ
+  now a = bitAt o a (spot t b)
+
+  accepts : (a : List ℕ) → Reads plan a → (r : ℕ) (payload : List ℕ) → r < length (rowsOf plan)
+      → now (acceptedArea a r payload) ≡ turned o w (now a) (accepted r payload)
+  unfolding acceptedArea
+  accepts a reads r payload h =
+      let s = aside-restarted payload-aside a r (omega (arith, good .counts .rx)) (λ p. omega (arith, good .counts .rx)) in
+      let long : LongEnough (restarted a r) = omega (arith, s .len, reads .header .size) in
+      rw (reads .header .order, reads .rx r h .claims) (row-turns plan good o t b frame small (accepted r payload) r h refl (restarted a r) long)
+      ∙ ap (λ (v : ℕ). turned o w v (accepted r payload)) (payload-bit o t b frame small s)
+
+  expires : (a : List ℕ) → Reads plan a → (r : ℕ) → r < length (rowsOf plan) → now (expiredArea a r) ≡ turned o w (now a) (expired r)
+  unfolding expiredArea
+  expires a reads r h =
+      payload-bit o t b frame small (aside-long payload-aside _ r (λ p. omega (arith, good .counts .rx)))
+      ∙ rw (reads .header .order, reads .rx r h .claims) (row-turns plan good o t b frame small (expired r) r h refl a (reads .header .size))
+
+  pub bit-turns : Turns plan Payload (λ a. bitAt (orderIn (records plan)) a (spot t b)) (turned (orderIn (records plan)) (owner plan t b))
+  bit-turns =
+      record { aside = payload-aside; uncounted = λ p. omega arith; same = λ x y s. payload-bit o t b frame small s; accepts = accepts; expires = expires }

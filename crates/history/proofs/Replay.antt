@@ -1,4 +1,4 @@
--- A bit by its owner, event by event from the oldest on: it comes to the bit worked out afresh.
+-- A number after some events, the oldest first, and a bit by its owner: that comes to the bit worked out afresh.
 use mathlib.Core.Path.{_≡_, refl, sym}
 use mathlib.Core.List.{List, [], _∷_, _++_}
 use mathlib.Core.Option.{Option, none, some}
@@ -12,6 +12,20 @@ use Rattle.area.specs.Claims.{RxEvent, accepted, expired}
 use Rattle.history.specs.Fresh.{Owner, nobody, signal, indicator, orElse, sourceBit, failureBit, freshBy}
 use Rattle.history.specs.Fresh.{acceptedOf, lastAccepted, failedBy, lastFailed}
 use Rattle.history.specs.Statements.{OwnedBy}
+
+-- ---- a number that each event turns
+
+unfoldable pub replay : (ℕ → RxEvent → ℕ) → List RxEvent → ℕ → ℕ
+replay turn [] v = v
+replay turn (e ∷ log) v = replay turn log (turn v e)
+
+pub replay-append :
+    (turn : ℕ → RxEvent → ℕ) (xs ys : List RxEvent) (v : ℕ) → replay turn (xs ++ ys) v ≡ replay turn ys (replay turn xs v)
+unfolding replay
+replay-append turn [] ys v = refl
+replay-append turn (e ∷ xs) ys v = replay-append turn xs ys (turn v e)
+
+-- ---- a bit
 
 -- the Rx frame of an event
 abbrev pub rxOf : RxEvent → ℕ
@@ -34,16 +48,6 @@ turned-other o (signal r k) v (accepted q payload) d = rw (ne-eqb r q (λ e. d (
 turned-other o (signal r k) v (expired q) d = refl
 turned-other o (indicator r) v (accepted q payload) d = rw (ne-eqb r q (λ e. d (sym e)))
 turned-other o (indicator r) v (expired q) d = rw (ne-eqb r q (λ e. d (sym e)))
-
--- after some events
-unfoldable pub replay : ℕ → Owner → List RxEvent → ℕ → ℕ
-replay o w [] v = v
-replay o w (e ∷ log) v = replay o w log (turned o w v e)
-
-pub replay-append : (o : ℕ) (w : Owner) (xs ys : List RxEvent) (v : ℕ) → replay o w (xs ++ ys) v ≡ replay o w ys (replay o w xs v)
-unfolding replay
-replay-append o w [] ys v = refl
-replay-append o w (e ∷ xs) ys v = replay-append o w xs ys (turned o w v e)
 
 -- ---- the last event decides
 
@@ -69,22 +73,22 @@ failure-turned o r (expired q) v = into (λ (x : Option ℕ). failureBit x v) (e
 
 -- ---- so each kind of owner gives its fresh bit
 
-source-replay : (o r k : ℕ) (log : List RxEvent) (v : ℕ) → replay o (signal r k) log v ≡ sourceBit o (lastAccepted r log) k v
+source-replay : (o r k : ℕ) (log : List RxEvent) (v : ℕ) → replay (turned o (signal r k)) log v ≡ sourceBit o (lastAccepted r log) k v
 unfolding replay lastAccepted
 source-replay o r k [] v = unfold sourceBit in refl
 source-replay o r k (e ∷ log) v = rw (source-else, source-turned) (source-replay o r k log (turned o (signal r k) v e))
 
-failure-replay : (o r : ℕ) (log : List RxEvent) (v : ℕ) → replay o (indicator r) log v ≡ failureBit (lastFailed r log) v
+failure-replay : (o r : ℕ) (log : List RxEvent) (v : ℕ) → replay (turned o (indicator r)) log v ≡ failureBit (lastFailed r log) v
 unfolding replay lastFailed
 failure-replay o r [] v = unfold failureBit in refl
 failure-replay o r (e ∷ log) v = rw (failure-else, failure-turned o r e v) (failure-replay o r log (turned o (indicator r) v e))
 
-nobody-replay : (o : ℕ) (log : List RxEvent) (v : ℕ) → replay o nobody log v ≡ v
+nobody-replay : (o : ℕ) (log : List RxEvent) (v : ℕ) → replay (turned o nobody) log v ≡ v
 unfolding replay turned
 nobody-replay o [] v = refl
 nobody-replay o (e ∷ log) v = nobody-replay o log v
 
-pub replay-fresh : (o : ℕ) (w : Owner) (log : List RxEvent) (v : ℕ) → replay o w log v ≡ freshBy o w log v
+pub replay-fresh : (o : ℕ) (w : Owner) (log : List RxEvent) (v : ℕ) → replay (turned o w) log v ≡ freshBy o w log v
 unfolding freshBy
 replay-fresh o nobody log v = nobody-replay o log v
 replay-fresh o (signal r k) log v = source-replay o r k log v

@@ -7,7 +7,7 @@ use native.Mathlib.Omega.{arith}
 use Rattle.base.specs.Numbers.{lowAt}
 use Rattle.base.proofs.Ranges.{at-most-le}
 use Rattle.area.specs.Layout.{counterByte, txCountBytes, rxCountBytes, queuesStart, txReloadsStart, txTimersStart, longStart, fullStart, entriesStart}
-use Rattle.area.specs.Layout.{txMasksStart, node, queue, txReload, rxReload, full, key, txMask, rxMask, firstRow, rowCount}
+use Rattle.area.specs.Layout.{txMasksStart, node, queue, txReload, rxReload, long, full, key, txMask, rxMask, firstRow, rowCount}
 use Rattle.area.proofs.Frame.{Same, same-two, same-fewer}
 use Rattle.area.proofs.Kept.{Planned, Kept, in-header, in-tables, marked-kept, order-kept, nodeCount-kept, txCount-kept, rxCount-kept}
 use Rattle.area.proofs.Kept.{start-kept, room-kept, planOf-kept, txFrame-kept, rxFrame-kept, claims-kept}
@@ -54,8 +54,11 @@ steady-aside =
       ends = λ n h j l m p. p .ends n h l m;
       ring = λ j l m p. p .high l (omega arith);
       timers = λ j l m p. p .timers l m;
-      low = λ j l m p. p .low l m;
+      waits = λ j l m p. p .low (omega arith) m;
     }
+
+pub steady-long : (r : ℕ) → r < 256 → Steady (long r) → ⊥
+steady-long r h p = p .low (omega arith) (omega arith)
 
 -- ---- what is read there
 

@@ -2,3 +2,4 @@ pub mod Calls
 pub mod Past
 pub mod Fresh
 pub mod Statements
+pub mod LongTimeouts

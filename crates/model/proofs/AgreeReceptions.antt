@@ -15,7 +15,7 @@ use Rattle.model.specs.Plan.{Plan, txIn, rowIn}
 use Rattle.model.specs.State.{State, keptOf, queueOn}
 use Rattle.model.specs.Calls.{reception, Running}
 use Rattle.model.specs.Words.{In, Names, Shape}
-use Rattle.model.specs.ReceptionRules.{Copies, Wanted, Differs, Schedules, Puts, InOrder, Loads, Accepts, ReceptionRules}
+use Rattle.model.specs.ReceptionRules.{Copies, Wanted, Differs, Schedules, Puts, InOrder, Becomes, Restarts, Accepts, ReceptionRules}
 use Rattle.model.proofs.Words.{state-same, dec-either, dec-both, dec-in}
 use Rattle.model.proofs.AgreeTicks.{Agree, agree, payloads, named}
 
@@ -115,25 +115,28 @@ module _ (p : Plan) (payload : List ℕ) where
 -- ---- the call
 
 module _ (p : Plan) where
-  pub load-shape : (r : ℕ) (s x : State) → Shape p s → Loads p r s x → Shape p x
-  load-shape r s x h a =
+  pub restart-shape : (r : ℕ) (s x : State) → Shape p s → Restarts p r s x → Shape p x
+  restart-shape r s x h a =
       record {
         kept = ap length (a .kept) ∙ h .kept;
         payload = λ t l. rw (a .kept) (h .payload t l);
         txTimers = ap length (a .txTimers) ∙ h .txTimers;
-        rxTimers = a .size ∙ h .rxTimers;
-        longs = ap length (a .longs) ∙ h .longs;
+        rxTimers = a .rxTimers .size ∙ h .rxTimers;
+        longs = a .longs .size ∙ h .longs;
         queues = ap length (a .queues) ∙ h .queues;
       }
 
-  loads : (r : ℕ) (s x y : State) → Loads p r s x → Loads p r s y → x ≡ y
-  loads r s x y a b =
-      state-same x y (a .number ∙ sym (b .number)) (a .kept ∙ sym (b .kept)) (a .txTimers ∙ sym (b .txTimers))
-      (ext-getD 0 _ _ (a .size ∙ sym (b .size)) (λ q l. at q (ℕ-discrete q r))) (a .longs ∙ sym (b .longs)) (a .queues ∙ sym (b .queues))
+  becomes : (r v : ℕ) (old x y : List ℕ) → Becomes r v old x → Becomes r v old y → x ≡ y
+  becomes r v old x y a b = ext-getD 0 x y (a .size ∙ sym (b .size)) (λ q l. at q (ℕ-discrete q r))
     where
-      at : (q : ℕ) → Dec (q ≡ r) → getD (x .rxTimers) q 0 ≡ getD (y .rxTimers) q 0
-      at q (yes e) = rw e (a .reload ∙ sym (b .reload))
+      at : (q : ℕ) → Dec (q ≡ r) → getD x q 0 ≡ getD y q 0
+      at q (yes e) = rw e (a .this ∙ sym (b .this))
       at q (no d) = a .others q d ∙ sym (b .others q d)
+
+  restarts : (r : ℕ) (s x y : State) → Restarts p r s x → Restarts p r s y → x ≡ y
+  restarts r s x y a b =
+      state-same x y (a .number ∙ sym (b .number)) (a .kept ∙ sym (b .kept)) (a .txTimers ∙ sym (b .txTimers))
+      (becomes r _ _ _ _ (a .rxTimers) (b .rxTimers)) (becomes r _ _ _ _ (a .longs) (b .longs)) (a .queues ∙ sym (b .queues))
 
   module _ (g h : Running) (s : State) (shape : Shape p s) (n i : ℕ) (payload : List ℕ) where
     accepts : (r : ℕ) → Accepts p g s n i payload r → Accepts p h s n i payload r → Agree g h s (reception n i payload)
@@ -141,8 +144,8 @@ module _ (p : Plan) where
         record {
           answer = a .answer ∙ sym (b .answer);
           next =
-              let e : a .loaded ≡ b .loaded = loads r s _ _ (a .loads) (b .loads) in
-              in-order p payload (rowIn p r .claims) (b .loaded) _ _ (rw e at (a .puts)) (b .puts);
+              let e : a .again ≡ b .again = restarts r s _ _ (a .restarts) (b .restarts) in
+              in-order p payload (rowIn p r .claims) (b .again) _ _ (rw e at (a .puts)) (b .puts);
         }
 
     pub reception-agrees : ReceptionRules p g s n i payload → ReceptionRules p h s n i payload → Agree g h s (reception n i payload)

@@ -6,7 +6,7 @@ use mathlib.Core.List.{List, [], _∷_}
 use Prim.Native.Nat.{ℕ, zero, suc, _+_, _/_, _%_, _≤_, _<_}
 use native.Mathlib.Omega.{arith}
 use native.Mathlib.Decide.{ℕ-discrete}
-use lib.ListN.{length, getD, length-set}
+use lib.ListN.{length, getD, set, length-set}
 use lib.Seq.{getD-set-same, getD-set-other}
 use borrow.Author.Tests.{eq-eqb, ne-eqb, lt-ltb, le-ltb, le-leb, lt-leb}
 use Rattle.base.specs.Pick.{pick}
@@ -17,15 +17,17 @@ use Rattle.bits.proofs.CopyLaws.{length-copied, bytes-copied, copied-bit, copie
 use Rattle.plan.specs.Rows.{Source, copy, failure, widthOf, Claim, Row, noRow}
 use Rattle.facts.specs.Good.{Each}
 use Rattle.model.specs.Plan.{Plan, txIn, rowIn}
-use Rattle.model.specs.State.{State, keptOf, queueOn, withKept, withRxTimer}
+use Rattle.model.specs.State.{State, keptOf, queueOn, withKept}
 use Rattle.model.specs.Scheduling.{isIn, joined, scheduled}
-use Rattle.model.specs.Reception.{sentIf, putBy, put, accepted, at, nothing, find, foundAnswer, foundState, receivedAnswer, received}
+use Rattle.model.specs.Reception.{sentIf, putBy, put, restarted, accepted, at, nothing, find, foundAnswer, foundState, receivedAnswer, received}
 use Rattle.model.specs.Calls.{reception, running, answerOf, nextOf}
 use Rattle.model.specs.Words.{Names, Payload, Shape}
-use Rattle.model.specs.ReceptionRules.{OnReception, OnChange, Wanted, Differs, Copies, Schedules, Aside, Puts, InOrder, ReceptionRules}
+use Rattle.model.specs.ReceptionRules.{OnReception, OnChange, Wanted, Differs, Copies, Schedules, Aside, Puts, InOrder}
+use Rattle.model.specs.ReceptionRules.{Becomes, Restarts, ReceptionRules}
 use Rattle.model.proofs.Lawful.{Lawful}
 use Rattle.model.proofs.Upto.{in-isIn, isIn-in}
 use Rattle.model.proofs.MeetsRx.{not-failure}
+use Rattle.model.proofs.AgreeReceptions.{restart-shape}
 
 -- ---- lookup
 
@@ -316,6 +318,23 @@ module _ (p : Plan) (lawful : Lawful p) where
       let x = puts payload s h c (f .0) (c .from) refl (g .0) in
       (_, x, in-order payload cs _ (x .shape) (f .1) (g .1))
 
+  -- ---- the row starts again
+
+  becomes : (r v : ℕ) (xs : List ℕ) → r < length xs → Becomes r v xs (set xs r v)
+  becomes r v xs l = record { this = getD-set-same xs r v 0 l; others = λ q d. getD-set-other xs r q v 0 d; size = length-set xs r v }
+
+  restart : (r : ℕ) (s : State) → Shape p s → r < length (p .rows) → Restarts p r s (restarted p s r)
+  unfolding restarted
+  restart r s shape l =
+      record {
+        rxTimers = becomes r _ (s .rxTimers) (omega (arith, shape .rxTimers));
+        longs = becomes r _ (s .longs) (omega (arith, shape .longs));
+        number = refl;
+        kept = refl;
+        txTimers = refl;
+        queues = refl;
+      }
+
   -- ---- the call
 
   pub meets-reception : (s : State) → Shape p s → (n i : ℕ) (payload : List ℕ) → ReceptionRules p (running p) s n i payload
@@ -347,30 +366,13 @@ module _ (p : Plan) (lawful : Lawful p) where
             let f = le-leb (length payload) 8 m in
             let g = found n i r x in
             let h = le-ltb (length payload) (rowIn p r .frame .size) k in
-            let room : r < length (s .rxTimers) = omega (arith, shape .rxTimers, x .exists) in
-            let held : Shape p (withRxTimer s r (rowIn p r .frame .reload)) =
-            record {
-              kept = shape .kept;
-              payload = shape .payload;
-              txTimers = shape .txTimers;
-              rxTimers = length-set (s .rxTimers) r _ ∙ shape .rxTimers;
-              longs = shape .longs;
-              queues = shape .queues;
-            } in
+            let again = restart r s shape (x .exists) in
             record {
               answer = rw (e, f, g, h);
-              loaded = withRxTimer s r (rowIn p r .frame .reload);
-              loads =
-                  record {
-                    reload = getD-set-same (s .rxTimers) r _ 0 room;
-                    others = λ q d. getD-set-other (s .rxTimers) r q _ 0 d;
-                    size = length-set (s .rxTimers) r _;
-                    number = refl;
-                    kept = refl;
-                    txTimers = refl;
-                    longs = refl;
-                    queues = refl;
-                  };
-              puts = rw (e, f, g, h) (in-order payload (rowIn p r .claims) _ held (lawful .frame r (x .exists)) (lawful .bits r (x .exists)));
+              again = restarted p s r;
+              restarts = again;
+              puts =
+                  rw (e, f, g, h)
+                  (in-order payload (rowIn p r .claims) _ (restart-shape p r s _ shape again) (lawful .frame r (x .exists)) (lawful .bits r (x .exists)));
             };
       }

@@ -15,7 +15,7 @@ use Rattle.model.specs.TickRules.{Done}
 use Rattle.model.specs.TakeRules.{Takes, TakeRules}
 use Rattle.model.specs.Rules.{Runs}
 use Rattle.model.proofs.AgreeTicks.{named}
-use Rattle.model.proofs.AgreeReceptions.{order-shape, load-shape}
+use Rattle.model.proofs.AgreeReceptions.{order-shape, restart-shape}
 
 -- a tick is refused, or it is done
 abbrev pub TickOutcome : Plan → Running → State → List ℕ → Type 0
@@ -80,7 +80,7 @@ module _ (p : Plan) (g : Running) (meets : Runs p g) (s : State) (k : Shape p s)
   pub shaped : (c : Call) → Shape p (g .next s c)
   shaped (reception n i payload) =
       ⊎-elim same
-      (λ (r, x, w). order-shape p payload (rowIn p r .claims) (w .loaded) _ (load-shape p r s (w .loaded) k (w .loads)) (w .puts))
+      (λ (r, x, w). order-shape p payload (rowIn p r .claims) (w .again) _ (restart-shape p r s (w .again) k (w .restarts)) (w .puts))
       (reception-outcome n i payload)
   shaped (tick report) = ⊎-elim (λ e. same (e .0)) (λ w. w .1 .ticks .shape) (tick-outcome report)
   shaped (take n) =

@@ -39,7 +39,7 @@ module _ (p : Plan) (g : Running) (meets : Runs p g) where
         accepted : (q : ℕ) → Names p n i q → Accepts p g s n i payload q → Dec (r ≡ q)
             → held (g .next s (reception n i payload)) + 0 ≡ held s
         accepted q x w (yes e) = absurd (f (w .answer) (rw e x))
-        accepted q x w (no d) = omega (arith, ap (λ z. getD z r 0) (order-rx payload (rowIn p q .claims) (w .loaded) _ (w .puts)), w .loads .others r d)
+        accepted q x w (no d) = omega (arith, ap (λ z. getD z r 0) (order-rx payload (rowIn p q .claims) (w .again) _ (w .puts)), w .restarts .rxTimers .others r d)
     step-rx s k (tick report) f m = go (tick-outcome p g meets s k report)
       where
         go : TickOutcome p g s report → held (g .next s (tick report)) + by s (tick report) ≡ held s

@@ -85,9 +85,9 @@ module _ (p : Plan) (g : Running) (meets : Runs p g) where
     step-tx s k (reception n i payload) f m =
         ⊎-elim (λ e. rw e (omega arith))
         (λ (q, x, w).
-        let before : w .loaded .queues ≡ s .queues = w .loads .queues in
-        let same = order-tx payload (rowIn p q .claims) (w .loaded) _ (w .puts) (λ y. rw before (f y)) in
-        omega (arith, same, ap (λ z. getD z t 0) (w .loads .txTimers)))
+        let before : w .again .queues ≡ s .queues = w .restarts .queues in
+        let same = order-tx payload (rowIn p q .claims) (w .again) _ (w .puts) (λ y. rw before (f y)) in
+        omega (arith, same, ap (λ z. getD z t 0) (w .restarts .txTimers)))
         (reception-outcome p g meets s k n i payload)
     step-tx s k (tick report) f m = go (tick-outcome p g meets s k report)
       where

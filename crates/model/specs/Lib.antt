@@ -8,6 +8,7 @@ pub mod Take
 pub mod Fullness
 pub mod Calls
 pub mod Listing
+pub mod ShortGaps
 pub mod Words
 pub mod OpeningRules
 pub mod ReceptionRules

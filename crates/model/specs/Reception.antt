@@ -11,7 +11,7 @@ use Rattle.answers.specs.declared.Refusal.the-variants.{NoNode, LongPayload}
 use Rattle.answers.specs.declared.Received.{Received}
 use Rattle.answers.specs.declared.Received.the-variants.{Accepted, NoRow, TooShort, Refused}
 use Rattle.model.specs.Plan.{Plan, txIn, rowIn}
-use Rattle.model.specs.State.{State, keptOf, withKept, withRxTimer}
+use Rattle.model.specs.State.{State, keptOf, withKept, withRxTimer, withLong}
 use Rattle.model.specs.Scheduling.{scheduled}
 
 pub data Found : Type 0 where
@@ -40,9 +40,14 @@ unfoldable pub put : Plan → State → List ℕ → List Claim → State
 put p s payload [] = s
 put p s payload (c ∷ cs) = put p (putBy p s payload c (c .from)) payload cs
 
--- "Then in order: the Rx timer takes its reload value; .."
+-- what an acceptance does to the row's own state: "the Rx timer takes its reload value"; "The long counter must start again at every accepted
+-- reception" (document 02, Ticket 1)
+unfoldable pub restarted : Plan → State → ℕ → State
+restarted p s r = withLong (withRxTimer s r (rowIn p r .frame .reload)) r (rowIn p r .frame .long)
+
+-- "Then in order: the Rx timer takes its reload value; an enabled failure bit becomes 0; signals are copied"
 unfoldable pub accepted : Plan → State → ℕ → List ℕ → State
-accepted p s r payload = put p (withRxTimer s r (rowIn p r .frame .reload)) payload (rowIn p r .claims)
+accepted p s r payload = put p (restarted p s r) payload (rowIn p r .claims)
 
 unfoldable pub foundAnswer : Plan → Found → List ℕ → Received
 foundAnswer p nothing payload = NoRow

@@ -68,22 +68,28 @@ unfoldable pub InOrder : Plan → List ℕ → List Claim → State → State �
 InOrder p payload [] s x = x ≡ s
 InOrder p payload (c ∷ cs) s x = (m : State) × Puts p payload c s m × InOrder p payload cs m x
 
--- "the Rx timer takes its reload value"
-pub record Loads (p : Plan) (r : ℕ) (s x : State) : Type 0 where
-  pub reload : getD (x .rxTimers) r 0 ≡ rowIn p r .frame .reload
-  pub others : (q : ℕ) → q ≢ r → getD (x .rxTimers) q 0 ≡ getD (s .rxTimers) q 0
-  pub size : length (x .rxTimers) ≡ length (s .rxTimers)
+-- of a number for each Rx frame, that of Rx frame r becomes v, and the others stay
+pub record Becomes (r v : ℕ) (old new : List ℕ) : Type 0 where
+  pub this : getD new r 0 ≡ v
+  pub others : (q : ℕ) → q ≢ r → getD new q 0 ≡ getD old q 0
+  pub size : length new ≡ length old
+
+-- the row starts again
+pub record Restarts (p : Plan) (r : ℕ) (s x : State) : Type 0 where
+  -- "the Rx timer takes its reload value"
+  pub rxTimers : Becomes r (rowIn p r .frame .reload) (s .rxTimers) (x .rxTimers)
+  -- "The long counter must start again at every accepted reception" (document 02, Ticket 1)
+  pub longs : Becomes r (rowIn p r .frame .long) (s .longs) (x .longs)
   pub number : x .number ≡ s .number
   pub kept : x .kept ≡ s .kept
   pub txTimers : x .txTimers ≡ s .txTimers
-  pub longs : x .longs ≡ s .longs
   pub queues : x .queues ≡ s .queues
 
 pub record Accepts (p : Plan) (g : Running) (s : State) (n id : ℕ) (payload : List ℕ) (r : ℕ) : Type 0 where
   pub answer : g .answer s (reception n id payload) ≡ received Accepted
-  pub loaded : State
-  pub loads : Loads p r s loaded
-  pub puts : InOrder p payload (rowIn p r .claims) loaded (g .next s (reception n id payload))
+  pub again : State
+  pub restarts : Restarts p r s again
+  pub puts : InOrder p payload (rowIn p r .claims) again (g .next s (reception n id payload))
 
 pub record ReceptionRules (p : Plan) (g : Running) (s : State) (n id : ℕ) (payload : List ℕ) : Type 0 where
   -- 12, then 13: "a received payload is longer than 8 bytes"

@@ -67,8 +67,7 @@ pub record Ticks (p : Plan) (s x : State) : Type 0 where
   pub queues : (n : ℕ) → n < p .nodes → Joins p s x n
   pub rxTimers : (r : ℕ) → r < length (p .rows)
       → Falls (RxHandled p s r) (rowIn p r .frame .reload) (getD (s .rxTimers) r 0) (getD (x .rxTimers) r 0)
-  -- "lowers the long counter if it is above 0; falling to 0 is a long timeout and the counter takes the long count again. The long counter moves
-  -- at expiries only."
+  -- "lowers the long counter if it is above 0; falling to 0 is a long timeout and the counter takes the long count again"
   pub longs : (r : ℕ) → r < length (p .rows) → Falls (RxExpires p s r) (rowIn p r .frame .long) (getD (s .longs) r 0) (getD (x .longs) r 0)
   -- a bit is 1 after a tick exactly where it was or where an expiry sets it
   pub kept : (t b : ℕ) → t < length (p .tx) → b < 64

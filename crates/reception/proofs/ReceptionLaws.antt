@@ -3,17 +3,16 @@
 use mathlib.Core.Path.{_≡_, refl, sym, _∙_}
 use mathlib.Core.Bool.{Bool, true, false}
 use mathlib.Core.List.{List}
-use Prim.Native.Nat.{ℕ, _+_, _≤_, _<_}
+use Prim.Native.Nat.{ℕ, _≤_, _<_}
 use native.Mathlib.Omega.{arith}
 use lib.Dec.{leb, ltb}
 use lib.ListN.{length}
-use lib.Seq.{getD-set-other}
 use borrow.Author.Tests.{le-ltb, ltb-true, ltb-false, leb-true}
 use Rattle.base.specs.Pick.{pick}
 use Rattle.base.specs.Numbers.{byteAt}
 use Rattle.bits.proofs.PayloadLaws.{Bytes}
 use Rattle.records.specs.declared.record.RxNumber.{RxNumber}
-use Rattle.area.specs.Layout.{counterByte, planStart, rowBound, rxTimer}
+use Rattle.area.specs.Layout.{counterByte, planStart, rowBound}
 use Rattle.area.specs.Layout.{marked, counter, order, nodeCount, txCount, rxCount, planOf, txFrame, rxFrame, claims}
 use Rattle.area.specs.Claims.{accepted}
 use Rattle.area.proofs.Kept.{Kept, kept-refl, kept-then, kept-allDone, counter-allDone, in-plan}
@@ -26,9 +25,9 @@ use Rattle.answers.specs.declared.Received.the-variants.{Accepted, NoRow, TooSh
 use Rattle.reception.specs.declared.lookup.Found.{Found}
 use Rattle.reception.specs.declared.lookup.Found.the-variants.{At, Nothing}
 use Rattle.reception.specs.Lookup.{lookedUp}
-use Rattle.reception.specs.Reception.{restarted, acceptedArea, foundAnswer, foundArea, receivedAnswer, receivedArea}
+use Rattle.reception.specs.Reception.{acceptedArea, foundAnswer, foundArea, receivedAnswer, receivedArea}
 use Rattle.reception.proofs.Search.{found-small}
-use Rattle.reception.proofs.WalkLaws.{kept-restarted}
+use Rattle.reception.proofs.WalkLaws.{kept-restarted, counter-restarted}
 use Rattle.reception.proofs.Outcomes.{goes-on}
 
 -- what a test chooses for the answer and for the area
@@ -94,10 +93,10 @@ module _ (a : List ℕ) (b : Bytes a) where
       (kept-allDone (order a) (accepted r payload) (claims a r) _ (narrow-claims a r b))
 
   counter-accepted : (r : ℕ) (payload : List ℕ) → counter (acceptedArea a r payload) ≡ counter a
-  unfolding acceptedArea restarted
+  unfolding acceptedArea
   counter-accepted r payload =
       counter-allDone (order a) (accepted r payload) (claims a r) _ (narrow-claims a r b)
-      ∙ getD-set-other a (rxTimer r) counterByte _ 0 (λ e. omega arith)
+      ∙ counter-restarted a r .at counterByte refl
 
   module _ (n id : ℕ) (payload : List ℕ) where
     abbrev after : List ℕ

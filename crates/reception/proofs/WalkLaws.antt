@@ -10,8 +10,9 @@ use Rattle.base.specs.Numbers.{byteAt, twoAt}
 use Rattle.records.specs.Kinds.{rxAt, rxBytes}
 use Rattle.records.specs.Records.{recordsAt}
 use Rattle.plan.specs.Rows.{copy, Claim, claimsFrom}
-use Rattle.area.specs.Layout.{rowBound, rxTimer, order, rxRecordPlace, stored, claimsAt, claims}
+use Rattle.area.specs.Layout.{counterByte, rowBound, rxTimer, long, order, rxRecordPlace, stored, claims}
 use Rattle.area.specs.Claims.{accepted, done, allDone, failureWritten}
+use Rattle.area.proofs.Frame.{Same, same-refl, same-set}
 use Rattle.area.proofs.Kept.{Kept, kept-refl, kept-low, stored-kept}
 use Rattle.area.proofs.ClaimLaws.{claimOf, allDone-numbered}
 use Rattle.area.proofs.Copies.{copies-destination, copies-signal, copies-stop, copies-end, copies-rx, accepted-claims, kept-failure, done-low}
@@ -52,7 +53,12 @@ module _ (o : ℕ) (source : List ℕ) (p s : ℕ) (bytes : List ℕ) (k : ℕ) 
 
 pub kept-restarted : (a : List ℕ) (r : ℕ) → r < rowBound → Kept a (restarted a r)
 unfolding restarted
-kept-restarted a r h = kept-low (rxTimer r) _ (omega arith) (omega arith) (kept-refl a)
+kept-restarted a r h =
+    kept-low (long (r % 256)) _ (omega arith) (omega arith) (kept-low (rxTimer r) _ (omega arith) (omega arith) (kept-refl a))
+
+pub counter-restarted : (a : List ℕ) (r : ℕ) → Same (λ j. j ≡ counterByte) a (restarted a r)
+unfolding restarted
+counter-restarted a r = same-set _ _ (λ p. omega arith) (same-set _ _ (λ p. omega arith) (same-refl a))
 
 -- once the row has started again and the failure bit is written, the walk from the end of the Rx record on does what an acceptance does
 pub walked-accepted :

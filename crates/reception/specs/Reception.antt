@@ -1,11 +1,11 @@
 -- "Reception takes node, ID and payload."
-use Prim.Native.Nat.{ℕ}
+use Prim.Native.Nat.{ℕ, _%_}
 use mathlib.Core.List.{List}
 use lib.Dec.{leb, ltb}
 use lib.ListN.{length, set}
 use Rattle.base.specs.Pick.{pick}
 use Rattle.base.specs.Numbers.{byteAt}
-use Rattle.area.specs.Layout.{rxReload, rxTimer, marked, order, nodeCount, rxFrame, claims}
+use Rattle.area.specs.Layout.{rxReload, rxTimer, long, marked, order, nodeCount, rxFrame, claims}
 use Rattle.area.specs.Claims.{accepted, allDone}
 use Rattle.answers.specs.declared.Refusal.the-variants.{NotOpen, NoNode, LongPayload}
 use Rattle.answers.specs.declared.Received.{Received}
@@ -14,9 +14,10 @@ use Rattle.reception.specs.declared.lookup.Found.{Found}
 use Rattle.reception.specs.declared.lookup.Found.the-variants.{At, Nothing}
 use Rattle.reception.specs.Lookup.{lookedUp}
 
--- what an acceptance does to the row's own state: "the Rx timer takes its reload value"
+-- what an acceptance does to the row's own state: "the Rx timer takes its reload value"; "The long counter must start again at every accepted
+-- reception" (document 02, Ticket 1). A plan has at most 256 rows; where an area full of garbage finds a later one, its number is brought into range
 unfoldable pub restarted : List ℕ → ℕ → List ℕ
-restarted a r = set a (rxTimer r) (byteAt a (rxReload r))
+restarted a r = set (set a (rxTimer r) (byteAt a (rxReload r))) (long (r % 256)) (rxFrame a r .long)
 
 -- "Then in order: the Rx timer takes its reload value; an enabled failure bit becomes 0; signals are copied in plan order, each to its
 -- destinations in order."

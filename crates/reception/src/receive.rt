@@ -5,11 +5,14 @@ use crate::walk::walk;
 use answers::Received;
 use answers::Refusal;
 use area::claims::write_failure;
+use area::frames::rx_long;
 use area::frames::rx_record_place;
 use area::frames::rx_size;
 use area::header::has_node;
 use area::header::is_marked;
 use area::layout::ORDER_BYTE;
+use area::layout::long;
+use area::layout::row_in_range;
 use area::layout::rx_reload;
 use area::layout::rx_timer;
 use records::decode::RX_BYTES;
@@ -64,16 +67,19 @@ fn accept(area: &mut [u8], r: RxNumber, at: usize, payload: &[u8])
     ensures { λ x. ⌜ now (area .exit) ≡ acceptedArea (now (area .entry)) (r .0) (now (payload .entry)) ⌝ }
 {
     let order = area[ORDER_BYTE];
-    restart(area, r);
+    restart(area, r, at);
     write_failure(order, 0, area, at);
     walk(order, payload, area, at + RX_BYTES);
 }
 
-// The Rx timer takes its reload value.
-fn restart(area: &mut [u8], r: RxNumber)
-    requires { ⌜ (r .0 < rowBound) × LongEnough (now area) ⌝ }
+// Row `r`, whose record is at `at`: the Rx timer takes its reload value, and the long counter the long count.
+fn restart(area: &mut [u8], r: RxNumber, at: usize)
+    requires { ⌜ (r .0 < rowBound) × (at ≡ rxRecordPlace (now area) (r .0)) × (at ≤ lastPlace) × LongEnough (now area) ⌝ }
     ensures { λ x. ⌜ now (area .exit) ≡ restarted (now (area .entry)) (r .0) ⌝ }
 {
+    let long_count = rx_long(area, at);
     let timer = rx_timer(r);
     area[timer] = area[rx_reload(r)];
+    let long_counter = long(row_in_range(r));
+    area[long_counter] = long_count;
 }

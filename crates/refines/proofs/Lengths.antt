@@ -1,11 +1,11 @@
 -- No call changes the length of an area, whatever stands in it.
 use mathlib.Core.Path.{_≡_, refl, _∙_}
 use mathlib.Core.List.{List, [], _∷_}
-use Prim.Native.Nat.{ℕ, _+_}
+use Prim.Native.Nat.{ℕ}
 use lib.ListN.{length, length-set}
 use Rattle.base.proofs.Picks.{both}
 use Rattle.plan.specs.Rows.{Claim}
-use Rattle.area.specs.Layout.{rxTimer, order, claims}
+use Rattle.area.specs.Layout.{order, claims}
 use Rattle.area.specs.Claims.{RxEvent, accepted, allDone}
 use Rattle.area.proofs.Frame.{Same, Each, Off, same-allDone, same-dequeued}
 use Rattle.answers.specs.declared.Opened.{Opened}
@@ -37,9 +37,13 @@ unfolding openedArea
 opened-sized (Open nodes tx rx) plan a = opened-length plan a
 opened-sized (Refused why number) plan a = refl
 
+restarted-sized : (a : List ℕ) (r : ℕ) → length (restarted a r) ≡ length a
+unfolding restarted
+restarted-sized a r = simp length-set
+
 accepted-sized : (a : List ℕ) (r : ℕ) (payload : List ℕ) → length (acceptedArea a r payload) ≡ length a
-unfolding restarted acceptedArea
-accepted-sized a r payload = sized-done (order a) (accepted r payload) (claims a r) _ .len ∙ length-set a (rxTimer r) _
+unfolding acceptedArea
+accepted-sized a r payload = sized-done (order a) (accepted r payload) (claims a r) _ .len ∙ restarted-sized a r
 
 received-sized : (a : List ℕ) (n id : ℕ) (payload : List ℕ) → length (receivedArea a n id payload) ≡ length a
 received-sized a n id payload =

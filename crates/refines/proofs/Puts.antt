@@ -20,7 +20,7 @@ use Rattle.model.specs.Reception.{putBy, put}
 use Rattle.model.specs.Reception as model
 use Rattle.model.proofs.Lawful.{Lawful}
 use Rattle.refines.proofs.Held.{Held}
-use Rattle.refines.proofs.Writes.{write-rx}
+use Rattle.refines.proofs.Writes.{write-rx, write-long}
 use Rattle.refines.proofs.Bits.{held-setBit, held-copied, same-differs}
 use Rattle.refines.proofs.Sched.{held-scheduled}
 use Rattle.refines.proofs.Follows.{chosen}
@@ -65,11 +65,18 @@ module _ {plan : List ℕ} (lawful : Lawful (said plan)) where
   held-puts o r e payload [] h f g = h
   held-puts o r e payload (c ∷ cs) h f g = held-puts o r e payload cs (held-put o r e payload c (f .0) h (g .0)) (f .1) (g .1)
 
-  -- ---- "the Rx timer takes its reload value", and then the claims
+  -- ---- the row starts again, and then the claims
+
+  held-restarted : {a : List ℕ} {s : State} → Held plan a s → (r : ℕ) → r < length (rowsOf plan)
+      → Held plan (restarted a r) (model.restarted (said plan) s r)
+  unfolding restarted model.restarted
+  held-restarted {a} {s} h r l =
+      let small : r % 256 ≡ r = omega (arith, h .good .counts .rx) in
+      rw (small, h .reads .rx r l .reload, h .reads .rx r l .frame) (write-long (write-rx h r _ l) r _ l)
 
   pub held-accepted : {a : List ℕ} {s : State} → Held plan a s → (r : ℕ) → r < length (rowsOf plan) → (payload : List ℕ)
       → Held plan (acceptedArea a r payload) (model.accepted (said plan) s r payload)
-  unfolding restarted acceptedArea model.accepted
+  unfolding acceptedArea model.accepted
   held-accepted {a} {s} h r l payload =
-      rw (h .reads .rx r l .claims, h .reads .rx r l .reload)
-      (held-puts (order a) r (h .reads .header .order) payload (rowAt plan r .claims) (write-rx h r _ l) (lawful .frame r l) (lawful .bits r l))
+      rw (h .reads .rx r l .claims)
+      (held-puts (order a) r (h .reads .header .order) payload (rowAt plan r .claims) (held-restarted h r l) (lawful .frame r l) (lawful .bits r l))

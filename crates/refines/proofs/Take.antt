@@ -36,7 +36,7 @@ use Rattle.refines.proofs.Follows.{Follows}
 -- no place of a payload is a queue's, a timer's or a wait's
 payloads : Aside (λ j. payloadsStart ≤ j)
 payloads =
-    record { ends = λ n h j l m p. omega arith; ring = λ j l m p. omega arith; timers = λ j l m p. omega arith; low = λ j l m p. omega arith }
+    record { ends = λ n h j l m p. omega arith; ring = λ j l m p. omega arith; timers = λ j l m p. omega arith; waits = λ j l m p. omega arith }
 
 module _ {plan a : List ℕ} {s : State} (h : Held plan a s) (n : ℕ) (l : n < nodesIn (records plan)) where
   law : Takes plan a n

@@ -11,6 +11,7 @@ use second::parse::{body_length, two_byte_number, DESTINATION, NODE, RX_FRAME, S
 use second::plan::{Plan, Signal};
 use second::refusal::{PlanRefusal, Refusal};
 
+use crate::long_counters::LongCounters;
 use crate::shapes::Case;
 use crate::tally::{made_row, past_row, Tally, COPIED, INPUT_LENGTHS, KINDS, LIMITS, PRESCALERS};
 
@@ -82,6 +83,7 @@ impl Tally {
     }
 
     fn events(&mut self, mut gateway: Gateway, events: &[u8]) {
+        let mut long_counters = LongCounters::new(gateway.plan());
         let mut ticks = 0;
         let mut rest = events;
         while !rest.is_empty() {
@@ -98,10 +100,14 @@ impl Tally {
                     id,
                     length,
                     data,
-                } => self.reception(&mut gateway, node, id, length, &data),
+                } => {
+                    let answer = self.reception(&mut gateway, node, id, length, &data);
+                    long_counters.reception(self, node, id, answer);
+                }
                 Event::Tick => {
                     ticks += 1;
-                    self.tick(&mut gateway);
+                    let report = self.tick(&mut gateway);
+                    long_counters.tick(self, &report);
                 }
                 Event::Take { node } => self.take(&mut gateway, node),
             }
@@ -112,14 +118,22 @@ impl Tally {
         }
     }
 
-    fn reception(&mut self, gateway: &mut Gateway, node: u8, id: u16, length: u8, data: &[u8; 8]) {
+    fn reception(
+        &mut self,
+        gateway: &mut Gateway,
+        node: u8,
+        id: u16,
+        length: u8,
+        data: &[u8; 8],
+    ) -> Result<Answer, Refusal> {
         match length {
             0..=12 => self.met(&format!("receptions of length {length}")),
             _ => self.met("receptions of length above 12"),
         }
         let failure_bits = failure_bits(gateway);
         let waiting = waiting(gateway);
-        match gateway.receive(node, id, &handed_on(length, data)) {
+        let answer = gateway.receive(node, id, &handed_on(length, data));
+        match answer {
             Err(refusal) => self.met(&format!("rx refused {}", refusal.number())),
             Ok(answer) => {
                 self.met(&format!("rx {}", answer as u8));
@@ -134,6 +148,7 @@ impl Tally {
                 }
             }
         }
+        answer
     }
 
     fn accepted(
@@ -182,12 +197,13 @@ impl Tally {
         }
     }
 
-    fn tick(&mut self, gateway: &mut Gateway) {
+    /// Answers the report.
+    fn tick(&mut self, gateway: &mut Gateway) -> Vec<u8> {
         let before = failure_bits(gateway);
         let waiting_before = waiting(gateway);
         let mut report = vec![0; gateway.plan().rx_frames.len()];
         if gateway.tick(&mut report).is_err() {
-            return;
+            return report;
         }
         if report.is_empty() {
             self.met("tick with an empty report");
@@ -219,6 +235,7 @@ impl Tally {
                 ));
             }
         }
+        report
     }
 
     fn take(&mut self, gateway: &mut Gateway, node: u8) {

@@ -63,6 +63,7 @@ fn sections() -> Vec<(&'static str, Vec<String>)> {
         ("event lines", event_lines()),
         ("plans", plans()),
         ("events", events()),
+        ("long counters", long_counters()),
         (
             "pairs of a position and a size of a signal, of 2080",
             copied(),
@@ -152,6 +153,28 @@ fn events() -> Vec<String> {
     rows
 }
 
+/// Ticket 1: "The long counter must start again at every accepted reception".
+pub fn long_counters() -> Vec<String> {
+    let mut rows = [
+        "restarts of a long counter under way",
+        "long timeouts put off by a restart",
+    ]
+    .map(String::from)
+    .to_vec();
+    let no_restarts = [
+        "a tick without an expiry",
+        "rx 0 of another row",
+        "rx 1",
+        "rx 2",
+        "rx refused 12",
+        "rx refused 13",
+    ];
+    rows.extend(no_restarts.map(despite_row));
+    rows.extend([0, 1].map(after_rx_0_row));
+    rows.extend((2..=15).map(after_restart_row));
+    rows
+}
+
 /// One order in each column.
 fn copied() -> Vec<String> {
     COPIED.concat().into_iter().map(String::from).collect()
@@ -178,6 +201,7 @@ pub fn made_row(shape: &str) -> String {
         Some(("input", what)) if what.starts_with("reception cut") => "input: reception cut",
         Some(("records" | "input", _)) => shape,
         Some(("copies", _)) => "signals of every position and size",
+        Some(("restarts", _)) => "receptions between expiries of a long count",
         Some(("field", _)) => "a field at or past the end of its range",
         Some(("follower", _)) => "a missing or bad follower",
         Some(("owners", _)) => "bits with two owners, or nearly",
@@ -204,6 +228,23 @@ fn least_count(row: &str) -> u64 {
 
 pub fn past_row(what: &str, limit: usize) -> String {
     format!("4: {} {what}", limit + 1)
+}
+
+/// For a long timeout that came when due although this came between two of its
+/// expiries.
+pub fn despite_row(what: &str) -> String {
+    format!("long timeouts despite {what}")
+}
+
+/// For the expiries of a row after an acceptance, where no restart can be seen.
+pub fn after_rx_0_row(long_count: u32) -> String {
+    format!("timeouts after rx 0, long count {long_count}")
+}
+
+/// For a long timeout after a restart and then exactly the long count of
+/// expiries in a row.
+pub fn after_restart_row(long_count: u32) -> String {
+    format!("long timeouts after a restart, long count {long_count}")
 }
 
 impl Default for Tally {

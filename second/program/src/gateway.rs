@@ -146,6 +146,9 @@ impl Gateway {
         // failure bit becomes 0; signals are copied in plan order, each to its
         // destinations in order."
         self.rx_states[rx_number].timer.reload();
+        // Ticket 1: "The long counter must start again at every accepted
+        // reception, so that a long timeout means that many expiries in a row."
+        self.rx_states[rx_number].long_counter = row.long_count;
         self.put_failure_bit(rx_number, false);
         for signal in &row.signals {
             for destination in &signal.destinations {

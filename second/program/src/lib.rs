@@ -1,7 +1,8 @@
-//! The gateway of document 01 and its bench program.
+//! The gateway of documents 01 and 02 and its bench program.
 //!
 //! [`run`] is the whole program: all of the input in, all of the lines out.
-//! In the comments, quotation marks hold words of document 01.
+//! In the comments, quotation marks hold words of document 01, and after the
+//! name of a ticket those of document 02.
 
 pub mod bench;
 pub mod bits;

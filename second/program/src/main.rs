@@ -1,11 +1,12 @@
-//! The second program: the bench program of document 01.
+//! The second program: the bench program of document 01, with Ticket 1 of
+//! document 02.
 //!
-//! How it was kept apart: this package was written from document 01 alone, by
-//! someone who had not read the Rattle sources, nor their design, their
-//! specifications or their tests. Where document 01 leaves something open,
+//! How it was kept apart: this package was written from these documents alone,
+//! by someone who had not read the Rattle sources, nor their design, their
+//! specifications or their tests. Where the documents leave something open,
 //! the reading taken is listed in NOTES.md. If the two programs differ, that
-//! is a question about document 01 first; neither is changed to look like the
-//! other.
+//! is a question about the documents first; neither is changed to look like
+//! the other.
 //!
 //! It is written to be obvious, not fast: plain structs and vectors, one small
 //! module per topic, and comments that quote the sentence they state.

@@ -186,30 +186,6 @@ fn scheduling_reloads_the_tx_timer_only_if_the_frame_did_not_wait() {
 }
 
 #[test]
-fn the_long_counter_moves_at_expiries_only() {
-    // Period 1, long count 2: a reception between two expiries does not
-    // begin the long count anew.
-    let plan = join(&[head_and_nodes(1), rx(0, 5, 0, 1, 1, 1, 0, 0, 2)]);
-    let tick = TICK.to_vec();
-    let events = join(&[
-        tick.clone(),
-        reception(0, 5, &[]),
-        tick.clone(),
-        tick.clone(),
-        tick,
-    ]);
-    let expected = [
-        "plan ok 1 0 1",
-        "tick 1",
-        "rx 0",
-        "tick 2",
-        "tick 1",
-        "tick 2",
-    ];
-    assert_eq!(lines(&plan, &events), expected);
-}
-
-#[test]
 fn a_queue_is_first_in_first_out_and_counts_those_that_still_wait() {
     let timers = |timer| tx(0, timer, 0, 1, 0, timer as u8, 0, [0; 8]);
     let plan = join(&[head_and_nodes(1), timers(2), timers(1), timers(1)]);

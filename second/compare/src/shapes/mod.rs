@@ -14,6 +14,7 @@ mod limits;
 mod order_of_tests;
 mod owners;
 mod records;
+mod restarts;
 mod showcase;
 
 use crate::rng::{mix, Rng};
@@ -52,6 +53,7 @@ impl Shapes {
         let mut special = Vec::new();
         special.extend(showcase::shapes());
         special.extend(copies::shapes());
+        special.extend(restarts::shapes());
         special.extend(limits::shapes());
         special.extend(fields::shapes());
         special.extend(followers::shapes());

@@ -111,15 +111,6 @@ pub const MISTAKES: &[Mistake] = &[
     ),
     // The calls.
     mistake(
-        "long counter reset at reception",
-        &[(
-            "gateway.rs",
-            "        self.put_failure_bit(rx_number, false);\n",
-            "        self.put_failure_bit(rx_number, false);
-             self.rx_states[rx_number].long_counter = row.long_count;\n",
-        )],
-    ),
-    mistake(
         "long counter not taken up again",
         &[(
             "gateway.rs",
@@ -371,6 +362,210 @@ pub const MISTAKES: &[Mistake] = &[
              Ok(Answer::Accepted)\n",
             ),
         ],
+    ),
+    // Ticket 1: the long counter starts again at every accepted reception.
+    mistake(
+        "no restart",
+        &[(
+            "gateway.rs",
+            "        self.rx_states[rx_number].long_counter = row.long_count;\n",
+            "",
+        )],
+    ),
+    mistake(
+        "restart at a too short reception",
+        &[(
+            "gateway.rs",
+            "            return Ok(Answer::TooShort);\n",
+            "            self.rx_states[rx_number].long_counter = row.long_count;
+             return Ok(Answer::TooShort);\n",
+        )],
+    ),
+    mistake(
+        "restart of the node's rows at a reception that finds no row",
+        &[(
+            "gateway.rs",
+            "            return Ok(Answer::NoMatchingRow);\n",
+            "            for (row, state) in self.plan.rx_frames.iter().zip(&mut self.rx_states) {
+                 if row.node == node {
+                     state.long_counter = row.long_count;
+                 }
+             }
+             return Ok(Answer::NoMatchingRow);\n",
+        )],
+    ),
+    mistake(
+        "restart at a reception refused 12",
+        &[(
+            "gateway.rs",
+            "        self.require_node(node)?;
+        require(payload.len() <= 8, Refusal::PayloadTooLong)?;\n",
+            "        for (row, state) in self.plan.rx_frames.iter().zip(&mut self.rx_states) {
+                 if row.id == id && usize::from(node) >= self.plan.node_count {
+                     state.long_counter = row.long_count;
+                 }
+             }
+             self.require_node(node)?;
+             require(payload.len() <= 8, Refusal::PayloadTooLong)?;\n",
+        )],
+    ),
+    mistake(
+        "restart at a reception refused 13",
+        &[(
+            "gateway.rs",
+            "        require(payload.len() <= 8, Refusal::PayloadTooLong)?;\n",
+            "        if let (Some(row), 9..) = (self.find_row(node, id), payload.len()) {
+                 self.rx_states[row].long_counter = self.plan.rx_frames[row].long_count;
+             }
+             require(payload.len() <= 8, Refusal::PayloadTooLong)?;\n",
+        )],
+    ),
+    mistake(
+        "restart at every tick",
+        &[(
+            "gateway.rs",
+            "            *report_byte = 0;\n",
+            "            *report_byte = 0;
+             let long_count = self.plan.rx_frames[rx_number].long_count;
+             self.rx_states[rx_number].long_counter = long_count;\n",
+        )],
+    ),
+    mistake(
+        "restart at a tick without an expiry",
+        &[(
+            "gateway.rs",
+            "                *report_byte = self.time_out(rx_number);
+            }\n",
+            "                *report_byte = self.time_out(rx_number);
+             } else {
+                 let long_count = self.plan.rx_frames[rx_number].long_count;
+                 self.rx_states[rx_number].long_counter = long_count;
+             }\n",
+        )],
+    ),
+    mistake(
+        "restart of row 0",
+        &[(
+            "gateway.rs",
+            "self.rx_states[rx_number].long_counter = row.long_count;",
+            "self.rx_states[0].long_counter = self.plan.rx_frames[0].long_count;",
+        )],
+    ),
+    mistake(
+        "restart of every row",
+        &[(
+            "gateway.rs",
+            "        self.rx_states[rx_number].long_counter = row.long_count;\n",
+            "        for (row, state) in self.plan.rx_frames.iter().zip(&mut self.rx_states) {
+                 state.long_counter = row.long_count;
+             }\n",
+        )],
+    ),
+    mistake(
+        "restart of every row of the ID",
+        &[(
+            "gateway.rs",
+            "        self.rx_states[rx_number].long_counter = row.long_count;\n",
+            "        for (row, state) in self.plan.rx_frames.iter().zip(&mut self.rx_states) {
+                 if row.id == id {
+                     state.long_counter = row.long_count;
+                 }
+             }\n",
+        )],
+    ),
+    mistake(
+        "restart at 0",
+        &[("gateway.rs", "long_counter = row.long_count;", "long_counter = 0;")],
+    ),
+    mistake(
+        "restart at one less than the long count",
+        &[(
+            "gateway.rs",
+            "long_counter = row.long_count;",
+            "long_counter = row.long_count.saturating_sub(1);",
+        )],
+    ),
+    mistake(
+        "restart at the long count of row 0",
+        &[(
+            "gateway.rs",
+            "long_counter = row.long_count;",
+            "long_counter = self.plan.rx_frames[0].long_count;",
+        )],
+    ),
+    mistake(
+        "restart at 14 at most",
+        &[(
+            "gateway.rs",
+            "long_counter = row.long_count;",
+            "long_counter = row.long_count.min(14);",
+        )],
+    ),
+    mistake(
+        "restart at 1 at least",
+        &[(
+            "gateway.rs",
+            "long_counter = row.long_count;",
+            "long_counter = row.long_count.max(1);",
+        )],
+    ),
+    mistake(
+        "restart with an enabled indicator only",
+        &[(
+            "gateway.rs",
+            "        self.rx_states[rx_number].long_counter = row.long_count;\n",
+            "        if row.failure_enabled {
+                 self.rx_states[rx_number].long_counter = row.long_count;
+             }\n",
+        )],
+    ),
+    mistake(
+        "restart with a signal only",
+        &[(
+            "gateway.rs",
+            "        self.rx_states[rx_number].long_counter = row.long_count;\n",
+            "        if !row.signals.is_empty() {
+                 self.rx_states[rx_number].long_counter = row.long_count;
+             }\n",
+        )],
+    ),
+    mistake(
+        "restart at a payload of the row's size only",
+        &[(
+            "gateway.rs",
+            "        self.rx_states[rx_number].long_counter = row.long_count;\n",
+            "        if payload.len() == row.size {
+                 self.rx_states[rx_number].long_counter = row.long_count;
+             }\n",
+        )],
+    ),
+    mistake(
+        "restart before the last expiry of the long count only",
+        &[(
+            "gateway.rs",
+            "        self.rx_states[rx_number].long_counter = row.long_count;\n",
+            "        if self.rx_states[rx_number].long_counter == 1 {
+                 self.rx_states[rx_number].long_counter = row.long_count;
+             }\n",
+        )],
+    ),
+    mistake(
+        "no restart before the last expiry of the long count",
+        &[(
+            "gateway.rs",
+            "        self.rx_states[rx_number].long_counter = row.long_count;\n",
+            "        if self.rx_states[rx_number].long_counter > 1 {
+                 self.rx_states[rx_number].long_counter = row.long_count;
+             }\n",
+        )],
+    ),
+    mistake(
+        "after a long timeout each expiry is long",
+        &[(
+            "gateway.rs",
+            "*long_counter = self.plan.rx_frames[rx_number].long_count;",
+            "*long_counter = 1;",
+        )],
     ),
     // The plan: counts.
     mistake(

@@ -1,0 +1,139 @@
+//! Each row's long counter, told from what the calls answer, and what of it the
+//! table counts.
+//!
+//! Ticket 1: "The long counter must start again at every accepted reception, so
+//! that a long timeout means that many expiries in a row."
+
+use std::collections::BTreeSet;
+use std::mem;
+
+use second::gateway::Answer;
+use second::plan::Plan;
+use second::refusal::Refusal;
+
+use crate::tally::{after_restart_row, after_rx_0_row, despite_row, Tally};
+
+pub struct LongCounters {
+    rows: Vec<LongCounter>,
+}
+
+/// The long counter of one row.
+struct LongCounter {
+    node: u8,
+    id: u16,
+    long_count: u32,
+    /// The expiries since the last acceptance, or since opening.
+    in_a_row: u32,
+    /// The expiries since opening.
+    in_all: u32,
+    accepted: bool,
+    /// Whether the last acceptance found the counter under way.
+    restarted: bool,
+    /// What came while the counter was under way and is no restart.
+    passed_by: BTreeSet<&'static str>,
+}
+
+impl LongCounters {
+    /// The counters after opening.
+    pub fn new(plan: &Plan) -> LongCounters {
+        let rows = plan.rx_frames.iter().map(|row| LongCounter {
+            node: row.node,
+            id: row.id,
+            long_count: u32::from(row.long_count),
+            in_a_row: 0,
+            in_all: 0,
+            accepted: false,
+            restarted: false,
+            passed_by: BTreeSet::new(),
+        });
+        LongCounters {
+            rows: rows.collect(),
+        }
+    }
+
+    /// A reception that is not accepted concerns the row it names; if it names
+    /// none, every row.
+    pub fn reception(
+        &mut self,
+        tally: &mut Tally,
+        node: u8,
+        id: u16,
+        answer: Result<Answer, Refusal>,
+    ) {
+        for row in &mut self.rows {
+            let is_named = (row.node, row.id) == (node, id);
+            match answer {
+                Ok(Answer::Accepted) if is_named => row.accept(tally),
+                Ok(Answer::Accepted) => row.pass_by("rx 0 of another row"),
+                Ok(Answer::NoMatchingRow) => row.pass_by("rx 1"),
+                Ok(Answer::TooShort) if is_named => row.pass_by("rx 2"),
+                Err(Refusal::NoSuchNode) => row.pass_by("rx refused 12"),
+                Err(Refusal::PayloadTooLong) if is_named => row.pass_by("rx refused 13"),
+                _ => {}
+            }
+        }
+    }
+
+    pub fn tick(&mut self, tally: &mut Tally, report: &[u8]) {
+        for (row, byte) in self.rows.iter_mut().zip(report) {
+            match byte {
+                0 => row.pass_by("a tick without an expiry"),
+                1 => row.expire(tally, false),
+                _ => row.expire(tally, true),
+            }
+        }
+    }
+}
+
+impl LongCounter {
+    /// Whether so many expiries are whole long counts.
+    fn are_whole(&self, expiries: u32) -> bool {
+        self.long_count > 0 && expiries.is_multiple_of(self.long_count)
+    }
+
+    /// Whether the counter is below the long count: some of its expiries have
+    /// come, and not all.
+    fn is_under_way(&self) -> bool {
+        self.long_count > 0 && !self.are_whole(self.in_a_row)
+    }
+
+    fn pass_by(&mut self, what: &'static str) {
+        if self.is_under_way() {
+            self.passed_by.insert(what);
+        }
+    }
+
+    fn accept(&mut self, tally: &mut Tally) {
+        self.accepted = true;
+        self.restarted = self.is_under_way();
+        if self.restarted {
+            tally.met("restarts of a long counter under way");
+        }
+        self.in_a_row = 0;
+        self.passed_by.clear();
+    }
+
+    fn expire(&mut self, tally: &mut Tally, is_long: bool) {
+        self.in_a_row += 1;
+        self.in_all += 1;
+        if self.accepted && self.long_count < 2 {
+            tally.met(&after_rx_0_row(self.long_count));
+        }
+        // Without restarts all expiries would count.
+        if !is_long && self.are_whole(self.in_all) {
+            tally.met("long timeouts put off by a restart");
+        }
+        if is_long && self.are_whole(self.in_a_row) {
+            self.long_timeout_when_due(tally);
+        }
+    }
+
+    fn long_timeout_when_due(&mut self, tally: &mut Tally) {
+        if self.restarted && self.in_a_row == self.long_count {
+            tally.met(&after_restart_row(self.long_count));
+        }
+        for what in mem::take(&mut self.passed_by) {
+            tally.met(&despite_row(what));
+        }
+    }
+}

@@ -12,6 +12,9 @@ pub mod MeetsTake
 pub mod MeetsTx
 pub mod MeetsRx
 pub mod MeetsTick
+pub mod Lookup
+pub mod MeetsSending
+pub mod MeetsPuts
 pub mod MeetsReception
 pub mod Meets
 pub mod Listing

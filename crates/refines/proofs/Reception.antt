@@ -26,7 +26,7 @@ use Rattle.model.specs.Reception as model
 use Rattle.model.specs.Calls as calls
 use Rattle.model.specs.Words.{Names}
 use Rattle.model.proofs.Lawful.{Lawful}
-use Rattle.model.proofs.MeetsReception.{found, missed}
+use Rattle.model.proofs.Lookup.{found, missed}
 use Rattle.history.specs.Calls.{answerIn, areaAfter}
 use Rattle.refines.proofs.Held.{Held}
 use Rattle.refines.proofs.Follows.{Follows, chosen}

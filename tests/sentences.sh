@@ -43,6 +43,11 @@ says 'a payload that is too short starts nothing again' "$head $node $row" "11 $
 says 'a refused reception starts nothing again' "$head $node $row" '11 10 00 0020 09 0000000000000000 11' 'plan ok 1 0 1/tick 1/rx refused 13/tick 2'
 says 'a reception without a row starts nothing again' "$head $node $row" '11 10 00 0021 01 2c00000000000000 11' 'plan ok 1 0 1/tick 1/rx 1/tick 2'
 says 'an acceptance starts its own row alone again' "$head $node $row $next" "11 $got 11 11" 'plan ok 1 0 2/tick 1 1/rx 0/tick 1 2/tick 2 1'
+# the last of 256 rows: its place is the highest that an acceptance writes
+rows=$(for id in {0..255}; do printf '04 00 %04x 01 01 01 01 00 00 02 ' "$id"; done)
+bytes() { printf " $1%.0s" {1..255}; }
+says 'an acceptance starts the last of 256 rows alone again' "$head $node $rows" '11 10 00 00ff 01 2c00000000000000 11 11' \
+    "plan ok 1 0 256/tick$(bytes 1) 1/rx 0/tick$(bytes 2) 1/tick$(bytes 1) 2"
 
 # the same Tx frame on a period of three ticks
 tx="03 00 0100 02 01 03 03 01 $none"

@@ -116,7 +116,7 @@ def bad_event(event):
 
 def count_timeouts(plan, event, line, in_a_row):
     """Counts how many timeouts of each Rx frame came in a row: its acceptance begins anew."""
-    if line == 'rx 0':
+    if line == 'rx 0' and event.kind == 16 and event.fields:
         for number, frame in enumerate(plan.rx):
             if (frame.node, frame.id) == (event.fields['node'], event.fields['ID']):
                 in_a_row[number] = 0

@@ -22,6 +22,7 @@ inARow r n [] = n
 inARow r n (accepted q payload ∷ log) = inARow r (pick (eqb q r) 0 n) log
 inARow r n (expired q ∷ log) = inARow r (pick (eqb q r) (suc n) n) log
 
+-- n is so many times the long count
 abbrev pub Multiple : ℕ → ℕ → Type 0
 Multiple n long = (k : ℕ) × (n ≡ k * long)
 

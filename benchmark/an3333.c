@@ -12,8 +12,8 @@ static struct tables *opened(const uint8_t *area, size_t length)
     return (struct tables *)area;
 }
 
-// RxFindFrmId: the middle row first, then the half that remains.
-static struct rx_frame *find(struct tables *g, const struct node *node, uint32_t id)
+// RxFindFrmId: the middle row first, then the half that remains. Where there is none, `place` becomes how many of the node's rows have a smaller ID.
+static struct rx_frame *find(struct tables *g, const struct node *node, uint32_t id, uint16_t *place)
 {
     struct rx_frame *base = &g->rx[node->first_row];
     for (unsigned i = node->rows; i != 0; i >>= 1) {
@@ -25,6 +25,7 @@ static struct rx_frame *find(struct tables *g, const struct node *node, uint32_t
             i--;
         }
     }
+    *place = base - &g->rx[node->first_row];
     return 0;
 }
 
@@ -66,20 +67,21 @@ static void copy_signals(struct tables *g, const struct rx_frame *rx, const stru
     }
 }
 
-uint64_t CALL(receive)(uint8_t *area, size_t area_length, size_t node, uint32_t id, const uint8_t *payload, size_t payload_length)
+struct gateway_received CALL(receive)(uint8_t *area, size_t area_length, size_t node, uint32_t id, const uint8_t *payload, size_t payload_length)
 {
     struct tables *g = opened(area, area_length);
     if (!g)
-        return 11;
+        return (struct gateway_received){.number = 11};
     if (node >= g->nodes)
-        return 12;
+        return (struct gateway_received){.number = 12};
     if (payload_length > 8)
-        return 13;
-    struct rx_frame *rx = find(g, &g->node[node], id);
+        return (struct gateway_received){.number = 13};
+    uint16_t place;
+    struct rx_frame *rx = find(g, &g->node[node], id, &place);
     if (!rx)
-        return 1;
+        return (struct gateway_received){.number = 1, .place = place};
     if (payload_length < rx->size)
-        return 2;
+        return (struct gateway_received){.number = 2};
     struct source source;
     load(&source, payload, rx->size, g->order);
     rx->timer.count = rx->timer.reload;
@@ -87,7 +89,7 @@ uint64_t CALL(receive)(uint8_t *area, size_t area_length, size_t node, uint32_t 
     if (rx->failure_position != NO_INDICATOR)
         assign_failure(g, rx, 0);
     copy_signals(g, rx, &source);
-    return 0;
+    return (struct gateway_received){0};
 }
 
 // Handles a timer, and says whether it expired.
@@ -111,7 +113,7 @@ static uint8_t time_out(struct tables *g, struct rx_frame *rx)
 }
 
 // GatewayTick: the counter moves on last.
-uint64_t CALL(tick)(uint8_t *area, size_t area_length, uint8_t *report, size_t report_length)
+uint16_t CALL(tick)(uint8_t *area, size_t area_length, uint8_t *report, size_t report_length)
 {
     struct tables *g = opened(area, area_length);
     if (!g)
@@ -130,16 +132,16 @@ uint64_t CALL(tick)(uint8_t *area, size_t area_length, uint8_t *report, size_t r
 }
 
 // MsCanTxEmptyIsr: the oldest frame of a node's ring.
-uint64_t CALL(take)(uint8_t *area, size_t area_length, size_t node_number)
+struct gateway_taken CALL(take)(uint8_t *area, size_t area_length, size_t node_number)
 {
     struct tables *g = opened(area, area_length);
     if (!g)
-        return 11;
+        return (struct gateway_taken){.number = 11};
     if (node_number >= g->nodes)
-        return 12;
+        return (struct gateway_taken){.number = 12};
     struct node *node = &g->node[node_number];
     if (node->take == node->add)
-        return 0;
+        return (struct gateway_taken){0};
     struct tx_frame *tx = g->ring[node->ring + node->take];
     if (++node->take == node->ring_size)
         node->take = 0;
@@ -147,23 +149,23 @@ uint64_t CALL(take)(uint8_t *area, size_t area_length, size_t node_number)
     int waiting = node->add - node->take;
     if (waiting < 0)
         waiting += node->ring_size;
-    return word(256, (uint64_t)(tx - g->tx) | tx->size << 8, tx->id, (unsigned)waiting);
+    return (struct gateway_taken){.kind = GATEWAY_FRAME, .tx = tx - g->tx, .size = tx->size, .id = tx->id, .waiting = waiting};
 }
 
-uint64_t CALL(payload)(const uint8_t *area, size_t area_length, uint64_t taken)
+struct gateway_payload CALL(payload)(const uint8_t *area, size_t area_length, struct gateway_taken taken)
 {
     (void)area;
-    if ((taken & 0xffff) != 256 || area_length < AREA_SIZE)
-        return 0;
-    return word(0, taken >> 24 & 0xff, offsetof(struct tables, tx) + sizeof(struct tx_frame) * (taken >> 16 & 0xff), 0);
+    if (taken.kind != GATEWAY_FRAME || area_length < AREA_SIZE)
+        return (struct gateway_payload){0};
+    return (struct gateway_payload){.at = offsetof(struct tables, tx) + sizeof(struct tx_frame) * taken.tx, .size = taken.size};
 }
 
-uint64_t CALL(fullness)(const uint8_t *area, size_t area_length, size_t tx)
+struct gateway_fullness CALL(fullness)(const uint8_t *area, size_t area_length, size_t tx)
 {
     const struct tables *g = opened(area, area_length);
     if (!g)
-        return 11;
+        return (struct gateway_fullness){.number = 11};
     if (tx >= g->tx_frames)
-        return 15;
-    return word(0, g->owned[tx], 0, 0);
+        return (struct gateway_fullness){.number = 15};
+    return (struct gateway_fullness){.bits = g->owned[tx]};
 }

@@ -1,6 +1,7 @@
-// The tables of a gateway in C after Freescale AN3333, section 3.1, in a lent area. All the gateways here have the same calls.
+// The tables of a gateway in C after Freescale AN3333, section 3.1, in a lent area. All the gateways here have the calls of include/gateway.h.
 #pragma once
 #include "bare.h"
+#include "gateway.h"
 
 enum { NODES = 16, FRAMES = 256, SIGNALS = 1024, DESTINATIONS = 2048, AREA_SIZE = 32768 };
 
@@ -60,22 +61,16 @@ struct tables {
 };
 _Static_assert(sizeof(struct tables) <= AREA_SIZE, "the tables are in the area");
 
-// The answers are the words of include/gateway.h: four numbers of 16 bits.
-static inline uint64_t word(uint64_t a, uint64_t b, uint64_t c, uint64_t d)
-{
-    return a | b << 16 | c << 32 | d << 48;
-}
-
-uint64_t an3333_open(const uint8_t *plan, size_t plan_length, uint8_t *area, size_t area_length);
-uint64_t an3333_receive(uint8_t *area, size_t area_length, size_t node, uint32_t id, const uint8_t *payload, size_t payload_length);
-uint64_t an3333_tick(uint8_t *area, size_t area_length, uint8_t *report, size_t report_length);
-uint64_t an3333_take(uint8_t *area, size_t area_length, size_t node);
-uint64_t an3333_payload(const uint8_t *area, size_t area_length, uint64_t taken);
-uint64_t an3333_fullness(const uint8_t *area, size_t area_length, size_t tx);
+struct gateway_opened an3333_open(const uint8_t *plan, size_t plan_length, uint8_t *area, size_t area_length);
+struct gateway_received an3333_receive(uint8_t *area, size_t area_length, size_t node, uint32_t id, const uint8_t *payload, size_t payload_length);
+uint16_t an3333_tick(uint8_t *area, size_t area_length, uint8_t *report, size_t report_length);
+struct gateway_taken an3333_take(uint8_t *area, size_t area_length, size_t node);
+struct gateway_payload an3333_payload(const uint8_t *area, size_t area_length, struct gateway_taken taken);
+struct gateway_fullness an3333_fullness(const uint8_t *area, size_t area_length, size_t tx);
 
 // The same with another copy of a signal; an3333_open opens for both.
-uint64_t word64_receive(uint8_t *area, size_t area_length, size_t node, uint32_t id, const uint8_t *payload, size_t payload_length);
-uint64_t word64_tick(uint8_t *area, size_t area_length, uint8_t *report, size_t report_length);
-uint64_t word64_take(uint8_t *area, size_t area_length, size_t node);
-uint64_t word64_payload(const uint8_t *area, size_t area_length, uint64_t taken);
-uint64_t word64_fullness(const uint8_t *area, size_t area_length, size_t tx);
+struct gateway_received word64_receive(uint8_t *area, size_t area_length, size_t node, uint32_t id, const uint8_t *payload, size_t payload_length);
+uint16_t word64_tick(uint8_t *area, size_t area_length, uint8_t *report, size_t report_length);
+struct gateway_taken word64_take(uint8_t *area, size_t area_length, size_t node);
+struct gateway_payload word64_payload(const uint8_t *area, size_t area_length, struct gateway_taken taken);
+struct gateway_fullness word64_fullness(const uint8_t *area, size_t area_length, size_t tx);

@@ -233,15 +233,15 @@ static unsigned ones(uint64_t set)
     return (unsigned)(set * 0x0101010101010101u >> 56);
 }
 
-uint64_t an3333_open(const uint8_t *plan, size_t plan_length, uint8_t *area, size_t area_length)
+struct gateway_opened an3333_open(const uint8_t *plan, size_t plan_length, uint8_t *area, size_t area_length)
 {
     struct check c;
     memset(&c, 0, sizeof c);
     unsigned refusal = check(&c, plan, plan_length);
     if (refusal)
-        return word(refusal, c.record, 0, 0);
+        return (struct gateway_opened){.number = refusal, .record = c.record};
     if (area_length < AREA_SIZE)
-        return word(SHORT_AREA, 0, 0, 0);
+        return (struct gateway_opened){.number = SHORT_AREA};
     struct tables *g = (struct tables *)area;
     memset(g, 0, sizeof *g);
     fill(g, plan, plan_length);
@@ -249,5 +249,5 @@ uint64_t an3333_open(const uint8_t *plan, size_t plan_length, uint8_t *area, siz
         g->owned[t] = ones(c.owned[t]);
     g->mark[0] = 0x47;
     g->mark[1] = 0x57;
-    return word(0, c.nodes, c.tx, c.rx);
+    return (struct gateway_opened){.nodes = c.nodes, .tx = c.tx, .rx = c.rx};
 }

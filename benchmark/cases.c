@@ -3,19 +3,18 @@
 
 static struct plan plan;
 
-static uint64_t taken_in(struct run *run, uint64_t number)
+static void take_in(struct run *run, uint64_t number)
 {
     run->digest = (run->digest ^ number) * 0x9e3779b97f4a7c15u;
     run->digest ^= run->digest >> 29;
-    return number;
 }
 
-static uint64_t called(struct run *run, enum call call, uint64_t answer)
+// After a call: the stack that it used.
+static void called(struct run *run, enum call call)
 {
     uint64_t stack = steps_stack();
     if (stack > run->stack[call])
         run->stack[call] = stack;
-    return answer;
 }
 
 static void must(int holds)
@@ -28,46 +27,65 @@ static void must(int holds)
 
 static void open(struct run *run)
 {
-    uint64_t answer = called(run, OPEN, COUNTED(run->gateway->open)(plan.byte, plan.length, run->area, AREA_SIZE));
-    must((taken_in(run, answer) & 0xffff) == 0);
+    struct gateway_opened opened = COUNTED(run->gateway->open)(plan.byte, plan.length, run->area, AREA_SIZE);
+    called(run, OPEN);
+    must(opened.number == 0);
+    take_in(run, opened.nodes);
+    take_in(run, opened.tx);
+    take_in(run, opened.rx);
 }
 
-static uint64_t receive(struct run *run, int node, uint32_t id, uint64_t payload)
+// The number that is answered.
+static unsigned receive(struct run *run, int node, uint32_t id, uint64_t payload)
 {
-    uint8_t *bytes = (uint8_t *)&payload;
-    return taken_in(run, called(run, RECEIVE, COUNTED(run->gateway->receive)(run->area, AREA_SIZE, node, id, bytes, 8)));
+    struct gateway_received received = COUNTED(run->gateway->receive)(run->area, AREA_SIZE, node, id, (uint8_t *)&payload, 8);
+    called(run, RECEIVE);
+    take_in(run, received.number);
+    take_in(run, received.place);
+    return received.number;
 }
 
 static void tick(struct run *run)
 {
-    must(taken_in(run, called(run, TICK, COUNTED(run->gateway->tick)(run->area, AREA_SIZE, run->report, 256))) == 0);
+    unsigned number = COUNTED(run->gateway->tick)(run->area, AREA_SIZE, run->report, 256);
+    called(run, TICK);
+    must(number == 0);
     for (int r = 0; r < 256; r++)
-        taken_in(run, run->report[r]);
+        take_in(run, run->report[r]);
 }
 
-static uint64_t take(struct run *run, int node)
+static struct gateway_taken take(struct run *run, int node)
 {
-    return taken_in(run, called(run, TAKE, COUNTED(run->gateway->take)(run->area, AREA_SIZE, node)));
+    struct gateway_taken taken = COUNTED(run->gateway->take)(run->area, AREA_SIZE, node);
+    called(run, TAKE);
+    must(taken.number == 0);
+    take_in(run, taken.kind);
+    take_in(run, taken.tx);
+    take_in(run, taken.size);
+    take_in(run, taken.id);
+    take_in(run, taken.waiting);
+    return taken;
 }
 
-static void payload(struct run *run, uint64_t taken)
+static void payload(struct run *run, struct gateway_taken taken)
 {
-    uint64_t answer = called(run, PAYLOAD, COUNTED(run->gateway->payload)(run->area, AREA_SIZE, taken));
-    for (size_t i = 0; i < gateway_payload_size(answer); i++)
-        taken_in(run, run->area[gateway_payload_place(answer) + i]);
+    struct gateway_payload part = COUNTED(run->gateway->payload)(run->area, AREA_SIZE, taken);
+    called(run, PAYLOAD);
+    for (size_t i = 0; i < part.size; i++)
+        take_in(run, run->area[part.at + i]);
 }
 
 void look_at_payloads(struct run *run)
 {
-    for (uint64_t t = 0; t < 256; t++)
-        payload(run, word(256, t | 8 << 8, 0, 0));
+    for (unsigned t = 0; t < 256; t++)
+        payload(run, frame(t));
 }
 
 // What a turn needs around the call that is counted.
 static void take_all_uncounted(struct run *run)
 {
     steps_count(0);
-    while (take(run, 0))
+    while (take(run, 0).kind)
         ;
     steps_count(run->counting);
 }
@@ -157,7 +175,7 @@ static void turn_schedule(struct run *run, const struct setting *s, int i)
 {
     must(receive(run, 0, row_id((s->waiting - 1 + i) % 256), 0) == 0);
     steps_count(0);
-    must(gateway_frame_waiting(take(run, 0)) == (unsigned)s->waiting - 1);
+    must(take(run, 0).waiting == s->waiting - 1);
     steps_count(run->counting);
 }
 
@@ -166,7 +184,7 @@ static void turn_take(struct run *run, const struct setting *s, int i)
     steps_count(0);
     must(receive(run, 0, row_id((s->waiting - 1 + i) % 256), 0) == 0);
     steps_count(run->counting);
-    must(gateway_frame_waiting(take(run, 0)) == (unsigned)s->waiting - 1);
+    must(take(run, 0).waiting == s->waiting - 1);
 }
 
 static void begin_nothing(struct run *run, const struct setting *s)
@@ -179,13 +197,13 @@ static void begin_nothing(struct run *run, const struct setting *s)
 static void turn_nothing(struct run *run, const struct setting *s, int i)
 {
     (void)s, (void)i;
-    must(take(run, 0) == 0);
+    must(take(run, 0).kind == GATEWAY_NOTHING);
 }
 
 static void turn_payload(struct run *run, const struct setting *s, int i)
 {
     (void)s;
-    payload(run, word(256, (uint64_t)i | 8 << 8, 0, 0));
+    payload(run, frame(i));
 }
 
 const struct scene schedule_case = {256, begin_queue, turn_schedule};
@@ -237,7 +255,7 @@ static void turn_car_reception(struct run *run, const struct setting *s, int i)
 static void car_takes(struct run *run)
 {
     for (int n = 0; n < CAR_NODES; n++)
-        for (uint64_t taken; (taken = take(run, n));)
+        for (struct gateway_taken taken; (taken = take(run, n)).kind;)
             payload(run, taken);
 }
 

@@ -131,17 +131,6 @@ static void spoil(void)
         plan.byte[chance(plan.length)] = chance(2) ? chance(8) : chance(256);
 }
 
-// What each gateway answered.
-typedef uint64_t answers[GATEWAYS];
-
-static int same(const answers answer)
-{
-    for (int g = 1; g < GATEWAYS; g++)
-        if (answer[g] != answer[0])
-            return 0;
-    return 1;
-}
-
 static int same_bytes(const uint8_t *a, const uint8_t *b, size_t n)
 {
     for (size_t i = 0; i < n; i++)
@@ -150,30 +139,23 @@ static int same_bytes(const uint8_t *a, const uint8_t *b, size_t n)
     return 1;
 }
 
-static int same_payloads(void)
+// Of the payload of a frame all have the same bytes, in places of their own.
+static int same_payload(struct gateway_taken taken)
 {
-    for (uint64_t t = 0; t < 256; t++) {
-        const uint8_t *kept[GATEWAYS];
-        for (int g = 0; g < GATEWAYS; g++) {
-            kept[g] = area[g] + gateway_payload_place(gateways[g].payload(area[g], AREA_SIZE, word(256, t | 8 << 8, 0, 0)));
-            if (!same_bytes(kept[0], kept[g], 8))
-                return 0;
-        }
+    struct gateway_payload part[GATEWAYS];
+    for (int g = 0; g < GATEWAYS; g++) {
+        part[g] = gateways[g].payload(area[g], AREA_SIZE, taken);
+        if (part[g].size != part[0].size || !same_bytes(area[0] + part[0].at, area[g] + part[g].at, part[0].size))
+            return 0;
     }
     return 1;
 }
 
-static int same_payload(uint64_t taken)
+static int same_payloads(void)
 {
-    const uint8_t *at[GATEWAYS];
-    answers size;
-    for (int g = 0; g < GATEWAYS; g++) {
-        uint64_t answer = gateways[g].payload(area[g], AREA_SIZE, taken);
-        size[g] = gateway_payload_size(answer);
-        at[g] = area[g] + gateway_payload_place(answer);
-        if (size[g] != size[0] || !same_bytes(at[0], at[g], size[g]))
+    for (unsigned t = 0; t < 256; t++)
+        if (!same_payload(frame(t)))
             return 0;
-    }
     return 1;
 }
 
@@ -185,41 +167,55 @@ static int same_reception(void)
     size_t length = chance(10) ? 8 : chance(11), size = chance(50) ? AREA_SIZE : AREA_SIZE - 1;
     for (int i = 0; i < 16; i++)
         payload[i] = chance(3) ? chance(256) : 0;
-    answers answer;
-    for (int g = 0; g < GATEWAYS; g++)
-        answer[g] = gateways[g].receive(area[g], size, node, id, payload, length);
-    return same(answer);
+    struct gateway_received received[GATEWAYS];
+    for (int g = 0; g < GATEWAYS; g++) {
+        received[g] = gateways[g].receive(area[g], size, node, id, payload, length);
+        if (received[g].number != received[0].number || received[g].place != received[0].place)
+            return 0;
+    }
+    return 1;
 }
 
 static int same_tick(void)
 {
     size_t length = chance(20) ? 300 : chance(257);
-    answers answer;
+    unsigned number[GATEWAYS];
     for (int g = 0; g < GATEWAYS; g++) {
         memset(report[g], 0x77, 300);
-        answer[g] = gateways[g].tick(area[g], AREA_SIZE, report[g], length);
-        if (!same_bytes(report[0], report[g], 300))
+        number[g] = gateways[g].tick(area[g], AREA_SIZE, report[g], length);
+        if (number[g] != number[0] || !same_bytes(report[0], report[g], 300))
             return 0;
     }
-    return same(answer);
+    return 1;
+}
+
+static int is_same_taken(struct gateway_taken a, struct gateway_taken b)
+{
+    return a.number == b.number && a.kind == b.kind && a.tx == b.tx && a.size == b.size && a.id == b.id && a.waiting == b.waiting;
 }
 
 static int same_take(void)
 {
     size_t node = chance(10) ? chance(nodes) : chance(18);
-    answers answer;
-    for (int g = 0; g < GATEWAYS; g++)
-        answer[g] = gateways[g].take(area[g], AREA_SIZE, node);
-    return same(answer) && same_payload(answer[0]);
+    struct gateway_taken taken[GATEWAYS];
+    for (int g = 0; g < GATEWAYS; g++) {
+        taken[g] = gateways[g].take(area[g], AREA_SIZE, node);
+        if (!is_same_taken(taken[0], taken[g]))
+            return 0;
+    }
+    return same_payload(taken[0]);
 }
 
 static int same_fullness(void)
 {
     size_t tx = chance(260);
-    answers answer;
-    for (int g = 0; g < GATEWAYS; g++)
-        answer[g] = gateways[g].fullness(area[g], AREA_SIZE, tx);
-    return same(answer);
+    struct gateway_fullness fullness[GATEWAYS];
+    for (int g = 0; g < GATEWAYS; g++) {
+        fullness[g] = gateways[g].fullness(area[g], AREA_SIZE, tx);
+        if (fullness[g].number != fullness[0].number || fullness[g].bits != fullness[0].bits)
+            return 0;
+    }
+    return 1;
 }
 
 static int same_calls(void)
@@ -233,6 +229,26 @@ static int same_calls(void)
     return 1;
 }
 
+static int is_same_opened(struct gateway_opened a, struct gateway_opened b)
+{
+    return a.number == b.number && a.record == b.record && a.nodes == b.nodes && a.tx == b.tx && a.rx == b.rx;
+}
+
+// Opens the plan, and gives the number that is answered.
+static int same_opening(unsigned *number)
+{
+    size_t size = chance(30) ? AREA_SIZE : chance(AREA_SIZE);
+    struct gateway_opened opened[GATEWAYS];
+    for (int g = 0; g < GATEWAYS; g++) {
+        area[g][0] = 0;
+        opened[g] = gateways[g].open(plan.byte, plan.length, area[g], size);
+        if (!is_same_opened(opened[0], opened[g]))
+            return 0;
+    }
+    *number = opened[0].number;
+    return 1;
+}
+
 int check(const char *seed, const char *plans)
 {
     uint64_t met[11] = {0}, all = number(plans);
@@ -241,19 +257,14 @@ int check(const char *seed, const char *plans)
         some_plan();
         if (chance(3) == 0)
             spoil();
-        size_t size = chance(30) ? AREA_SIZE : chance(AREA_SIZE);
-        answers answer;
-        for (int g = 0; g < GATEWAYS; g++) {
-            area[g][0] = 0;
-            answer[g] = gateways[g].open(plan.byte, plan.length, area[g], size);
-        }
-        if (!same(answer) || !same_calls()) {
+        unsigned number;
+        if (!same_opening(&number) || !same_calls()) {
             print("the gateways differ at plan ");
             print_number(i);
             print("\n");
             return 1;
         }
-        met[gateway_number(answer[0])]++;
+        met[number]++;
     }
     print_number(all);
     print(" plans, no difference. Good:");

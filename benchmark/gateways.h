@@ -1,16 +1,21 @@
 // The gateways under one set of calls.
 #pragma once
 #include "an3333.h"
-#include "gateway.h"
 
 struct gateway {
-    uint64_t (*open)(const uint8_t *, size_t, uint8_t *, size_t);
-    uint64_t (*receive)(uint8_t *, size_t, size_t, uint32_t, const uint8_t *, size_t);
-    uint64_t (*tick)(uint8_t *, size_t, uint8_t *, size_t);
-    uint64_t (*take)(uint8_t *, size_t, size_t);
-    uint64_t (*payload)(const uint8_t *, size_t, uint64_t);
-    uint64_t (*fullness)(const uint8_t *, size_t, size_t);
+    struct gateway_opened (*open)(const uint8_t *, size_t, uint8_t *, size_t);
+    struct gateway_received (*receive)(uint8_t *, size_t, size_t, uint32_t, const uint8_t *, size_t);
+    uint16_t (*tick)(uint8_t *, size_t, uint8_t *, size_t);
+    struct gateway_taken (*take)(uint8_t *, size_t, size_t);
+    struct gateway_payload (*payload)(const uint8_t *, size_t, struct gateway_taken);
+    struct gateway_fullness (*fullness)(const uint8_t *, size_t, size_t);
 };
+
+// A frame of 8 bytes as a take answers it, to look at its kept payload.
+static inline struct gateway_taken frame(unsigned tx)
+{
+    return (struct gateway_taken){.kind = GATEWAY_FRAME, .tx = tx, .size = 8};
+}
 
 // Ours comes first.
 enum { GATEWAYS = 3 };

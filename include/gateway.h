@@ -5,8 +5,8 @@
  * call does not overlap; and nothing else reads or writes it while the call runs. Between the calls the caller may read the area, and writes
  * nothing into it. No call asks more: any bytes and any numbers are met, and every call ends.
  *
- * A call answers one word of 64 bits. Its lowest byte is a number: 0, one of the answers, or one of the refusals below. What else a word has is
- * read by the functions at the end. A refused call changes no byte.
+ * A call answers a struct of at most 16 bytes, a tick a number. `number` is 0, one of the answers, or one of the refusals below. A field that
+ * says nothing is 0. A refused call changes no byte.
  */
 #ifndef GATEWAY_H
 #define GATEWAY_H
@@ -30,6 +30,10 @@ extern "C" {
 #define GATEWAY_NO_ROW 1
 /* a payload shorter than the row's size: nothing changes */
 #define GATEWAY_TOO_SHORT 2
+
+/* What a take has taken. */
+#define GATEWAY_NOTHING 0
+#define GATEWAY_FRAME 1
 
 /* The bytes of a report: 0 says nothing, and these a timeout of the Rx frame; a long one comes after as many in a row as its long count. */
 #define GATEWAY_SHORT_TIMEOUT 1
@@ -72,62 +76,65 @@ extern "C" {
  * Checks the plan and fills the area. The answer has the counts of nodes, Tx and Rx frames.
  * Refusals 1 to 10, with the number of the record that is refused, from 0.
  */
-uint64_t gateway_open(const uint8_t *plan, size_t plan_length, uint8_t *area, size_t area_length);
+struct gateway_opened {
+    uint16_t number;
+    uint16_t record;
+    uint16_t nodes;
+    uint16_t tx;
+    uint16_t rx;
+};
+struct gateway_opened gateway_open(const uint8_t *plan, size_t plan_length, uint8_t *area, size_t area_length);
 
 /*
- * A frame that a node received. The answer is the number alone: GATEWAY_ACCEPTED, GATEWAY_NO_ROW, GATEWAY_TOO_SHORT.
+ * A frame that a node received. The number is GATEWAY_ACCEPTED, GATEWAY_NO_ROW or GATEWAY_TOO_SHORT. With GATEWAY_NO_ROW, `place` is how many of
+ * that node's rows have a smaller ID: behind so many of them such a row belongs in the plan.
  * Refusals 11, 12, 13.
  */
-uint64_t gateway_receive(uint8_t *area, size_t area_length, size_t node, uint32_t id, const uint8_t *payload, size_t payload_length);
+struct gateway_received {
+    uint16_t number;
+    uint16_t place;
+};
+struct gateway_received gateway_receive(uint8_t *area, size_t area_length, size_t node, uint32_t id, const uint8_t *payload, size_t payload_length);
 
 /*
  * One tick of the clock. The report gets a byte for each Rx frame, in their order: 0, GATEWAY_SHORT_TIMEOUT or GATEWAY_LONG_TIMEOUT. Its further
- * bytes stay. The answer is 0. Refusals 11, 14.
+ * bytes stay. The answer is the number alone: 0, or refusals 11, 14.
  */
-uint64_t gateway_tick(uint8_t *area, size_t area_length, uint8_t *report, size_t report_length);
+uint16_t gateway_tick(uint8_t *area, size_t area_length, uint8_t *report, size_t report_length);
 
 /*
- * The oldest frame that waits on a node, which then waits no more; 0 says that none does. The answer has its Tx number, its ID, its size and how
- * many still wait on that node. Refusals 11, 12.
+ * The oldest frame that waits on a node, which then waits no more. The kind is GATEWAY_FRAME, and then the answer has its Tx number, its size, its
+ * ID and how many still wait on that node; or GATEWAY_NOTHING where none waits or the take is refused. Refusals 11, 12.
  */
-uint64_t gateway_take(uint8_t *area, size_t area_length, size_t node);
+struct gateway_taken {
+    uint16_t number;
+    uint16_t kind;
+    uint16_t tx;
+    uint16_t size;
+    uint32_t id;
+    uint16_t waiting;
+};
+struct gateway_taken gateway_take(uint8_t *area, size_t area_length, size_t node);
 
 /*
- * Where in the area the payload of a frame that was taken stands, and its size; `taken` is the word of the take. The bytes are those that a
- * reception or a tick last left there: read them before the next call. Where nothing was taken the size is 0. A plan's sizes are at most 8; in an
- * area that others wrote into a size can be up to 15. Never refused.
+ * The payload of a frame that was taken: `size` bytes of the area, from its byte `at` on; `taken` is what the take answered. The bytes are those
+ * that a reception or a tick last left there: read them before the next call. Where nothing was taken both are 0. A plan's sizes are at most 8; in
+ * an area that others wrote into a size can be up to 15. Never refused, whatever `taken` has.
  */
-uint64_t gateway_payload(const uint8_t *area, size_t area_length, uint64_t taken);
+struct gateway_payload {
+    uint16_t at;
+    uint16_t size;
+};
+struct gateway_payload gateway_payload(const uint8_t *area, size_t area_length, struct gateway_taken taken);
 
 /*
  * How many bits of a Tx frame have an owner, 0 to 64. Refusals 11, 15.
  */
-uint64_t gateway_fullness(const uint8_t *area, size_t area_length, size_t tx);
-
-/* Any word: the answer or the refusal, 0 where there is neither. */
-static inline unsigned gateway_number(uint64_t word) { return (unsigned)(word & 0xff); }
-
-/* What an opening answers. */
-static inline unsigned gateway_opened_nodes(uint64_t opened) { return (unsigned)(opened >> 16 & 0xffff); }
-static inline unsigned gateway_opened_tx(uint64_t opened) { return (unsigned)(opened >> 32 & 0xffff); }
-static inline unsigned gateway_opened_rx(uint64_t opened) { return (unsigned)(opened >> 48); }
-
-/* A refused opening: the number of the record, from 0. */
-static inline unsigned gateway_refused_record(uint64_t opened) { return (unsigned)(opened >> 16 & 0xffff); }
-
-/* What a take answers: 1 where there is a frame, 0 where there is none or the take was refused; then the frame. */
-static inline int gateway_is_frame(uint64_t taken) { return (taken & 0xffff) == 256; }
-static inline unsigned gateway_frame_tx(uint64_t taken) { return (unsigned)(taken >> 16 & 0xff); }
-static inline unsigned gateway_frame_size(uint64_t taken) { return (unsigned)(taken >> 24 & 0xff); }
-static inline unsigned gateway_frame_id(uint64_t taken) { return (unsigned)(taken >> 32 & 0xffff); }
-static inline unsigned gateway_frame_waiting(uint64_t taken) { return (unsigned)(taken >> 48); }
-
-/* What `gateway_payload` answers: the payload is `size` bytes of the area, from its byte `place` on. */
-static inline size_t gateway_payload_size(uint64_t payload) { return (size_t)(payload >> 16 & 0xffff); }
-static inline size_t gateway_payload_place(uint64_t payload) { return (size_t)(payload >> 32 & 0xffff); }
-
-/* What a fullness answers. */
-static inline unsigned gateway_owned_bits(uint64_t fullness) { return (unsigned)(fullness >> 16 & 0xffff); }
+struct gateway_fullness {
+    uint16_t number;
+    uint16_t bits;
+};
+struct gateway_fullness gateway_fullness(const uint8_t *area, size_t area_length, size_t tx);
 
 #ifdef __cplusplus
 }

@@ -1,6 +1,6 @@
 #!/usr/bin/env bash
-# The C interface, from the proved static library: the header says what the Rattle source says, the examples print their lines, and every word
-# and every refusal comes out right. On aarch64 the programs run under the kit's emulator, on x86-64 natively.
+# The C interface, from the proved static library: the header says what the Rattle source says, the examples print their lines, and every
+# field of every struct and every refusal comes out right. On aarch64 the programs run under the kit's emulator, on x86-64 natively.
 set -u
 python3 tests/header.py || exit 1
 # the header alone, as C and as C++: with the headers of another compiler, and with the stand-ins of tools/include

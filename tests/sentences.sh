@@ -41,13 +41,26 @@ row='04 00 0020 01 01 01 01 00 00 02'; next='04 00 0021 01 01 01 01 00 00 02'; s
 says 'the long counter starts again at an acceptance' "$head $node $row" "11 $got 11 11 11" 'plan ok 1 0 1/tick 1/rx 0/tick 1/tick 2/tick 1'
 says 'a payload that is too short starts nothing again' "$head $node $row" "11 $short 11" 'plan ok 1 0 1/tick 1/rx 2/tick 2'
 says 'a refused reception starts nothing again' "$head $node $row" '11 10 00 0020 09 0000000000000000 11' 'plan ok 1 0 1/tick 1/rx refused 13/tick 2'
-says 'a reception without a row starts nothing again' "$head $node $row" '11 10 00 0021 01 2c00000000000000 11' 'plan ok 1 0 1/tick 1/rx 1/tick 2'
+says 'a reception without a row starts nothing again' "$head $node $row" '11 10 00 0021 01 2c00000000000000 11' 'plan ok 1 0 1/tick 1/rx 1 1/tick 2'
 says 'an acceptance starts its own row alone again' "$head $node $row $next" "11 $got 11 11" 'plan ok 1 0 2/tick 1 1/rx 0/tick 1 2/tick 2 1'
+# Ticket 4, on three nodes: two rows, none, three
+stranger() { printf ' 10 %02x %04x 01 2c00000000000000' "$1" "$2"; }
+here=$(for id in 0020 0040; do printf '04 00 %s 01 01 01 01 00 00 00 ' "$id"; done)
+there=$(for id in 0010 0030 0050; do printf '04 02 %s 01 01 01 01 00 00 00 ' "$id"; done)
+says "the place is how many of that node's rows have a smaller ID" "$head $node $node $node $here $there" \
+    "$(stranger 0 0x1f)$(stranger 0 0x21)$(stranger 0 0x3f)$(stranger 0 0x41)$(stranger 2 0x0f)$(stranger 2 0x31)$(stranger 2 0x7ff)" \
+    'plan ok 3 0 5/rx 1 0/rx 1 1/rx 1 1/rx 1 2/rx 1 0/rx 1 2/rx 1 3'
+says 'a node without rows has the place 0' "$head $node $node $node $here $there" "$(stranger 1 0x20)$(stranger 1 0)" 'plan ok 3 0 5/rx 1 0/rx 1 0'
+says 'an ID above 2047 has the place behind all rows of its node' "$head $node $node $node $here $there" "$(stranger 0 0x800)$(stranger 2 0xffff)" \
+    'plan ok 3 0 5/rx 1 2/rx 1 3'
+says 'a refused reception and a payload that is too short have no place' "$head $node $here" \
+    '10 01 0030 01 2c00000000000000 10 00 0030 09 2c00000000000000 10 00 0020 00 0000000000000000' 'plan ok 1 0 2/rx refused 12/rx refused 13/rx 2'
 # the last of 256 rows: its place is the highest that an acceptance writes
 rows=$(for id in {0..255}; do printf '04 00 %04x 01 01 01 01 00 00 02 ' "$id"; done)
 bytes() { printf " $1%.0s" {1..255}; }
 says 'an acceptance starts the last of 256 rows alone again' "$head $node $rows" '11 10 00 00ff 01 2c00000000000000 11 11' \
     "plan ok 1 0 256/tick$(bytes 1) 1/rx 0/tick$(bytes 2) 1/tick$(bytes 1) 2"
+says 'behind 256 rows the place is 256' "$head $node $rows" "$(stranger 0 0x100)" 'plan ok 1 0 256/rx 1 256'
 
 # the same Tx frame on a period of three ticks
 tx="03 00 0100 02 01 03 03 01 $none"

@@ -33,6 +33,14 @@ def run(text, *options, program=os.environ['BENCH']):
     return status, ' '.join(view.split()), told.read().replace(file.name, 'FILE')
 
 
+def frame(node, number):
+    """A reception without data."""
+    return f'10 {node:02x} {number:04x} 00 {16 * "0"}'
+
+
+# Three nodes, of which the second has no rows.
+ROWS = '0100\n0200\n0200\n0200\n' + ''.join(f'04 {row} 00 01 00 00 00 00 00\n' for row in ('00 0120', '00 0130', '02 0110')) + 'events'
+NO_ROW = 'not taken: this node has no row for the ID'
 COMMENT = 'is not hex: a comment begins with #'
 EVENTS = 'is not hex: one line between plan and events says events, in small letters and nothing else'
 MISSING = "the text ends, and no line 'events' parts the plan from the events; write one, also where no event follows"
@@ -90,6 +98,13 @@ for text, status, words in [
     ('0100\nevents\n0200\n', 1, f"the run ends here, line 3: 02 is no kind: {EVENT_KINDS}; records stand before the line 'events'"),
     ('0100\nevents\n10 00 0020 01\n', 1, f'input bad the run ends here, line 3: {RECEPTION}; here are 5'),
     ('0100\n0200\n0200\nevents\n12 02\n', 0, 'take refused 12 no such node: there are nodes 0 to 1'),
+    (f'0100\n0200\nevents\n{frame(0, 0x20)}\n', 0, f'rx 1 0 {NO_ROW} its place: the plan has no rows'),
+    (f'{ROWS}\n{frame(0, 0)}\n', 0, f'rx 1 0 {NO_ROW} its place: before Rx frame 0, ID 0x120'),
+    (f'{ROWS}\n{frame(0, 0x121)}\n', 0, f'rx 1 1 {NO_ROW} its place: between Rx frame 0, ID 0x120, and Rx frame 1, ID 0x130'),
+    (f'{ROWS}\n{frame(0, 0x131)}\n', 0, f'rx 1 2 {NO_ROW} its place: between Rx frame 1, ID 0x130, and Rx frame 2, of node 2'),
+    (f'{ROWS}\n{frame(1, 0x121)}\n', 0, f'rx 1 0 {NO_ROW} its place: between Rx frame 1, of node 0, and Rx frame 2, of node 2'),
+    (f'{ROWS}\n{frame(2, 0x7ff)}\n', 0, f'rx 1 1 {NO_ROW} its place: behind Rx frame 2, ID 0x110'),
+    (f'{ROWS}\n{frame(2, 0x800)}\n', 0, f'rx 1 1 {NO_ROW} no row can have it: the greatest ID is 0x7ff'),
     ('0100\nevents\n' + 3 * (30000 * '11' + '\n'), 1, '=> input bad the input passes 65,536 bytes in line 5'),
     (MANY, 1, ' 1041 05 00 01 signal: bit 0 1042 07 unknown kind 07: what follows cannot be read ^^ refused here => plan refused 2 1042 '),
     ('# one\x1b[2J\r\n0100\r\nevents\r\n', 0, '# one\\x1b[2J no record'),
@@ -122,6 +137,8 @@ for expected, got in [
     ((1, 'refused 9 at record 0, line 1: an enabled', ''), run(GOOD, program='echo plan refused 9 0')),
     ((1, 'hello no line of the bench program', ''), run(GOOD, program='echo hello')),
     ((0, 'take on node 0 \\x1b[2J take no line of the bench program', ''), run(GOOD, program="printf 'plan ok 0 0 0\\n\\033[2J take\\n'")),
+    ((0, 'rx 1 3 no line of the bench program', ''), run(f'{ROWS}\n{frame(0, 0)}\n', program="printf 'plan ok 3 0 3\\nrx 1 3\\n'")),
+    ((0, 'rx 1 0 no line of the bench program', ''), run(GOOD, program="printf 'plan ok 0 0 0\\nrx 1 0\\n'")),
 ]:
     (status, words, message), (ended, shown, told) = expected, got
     if ended != status or words not in shown or bool(words) != bool(shown) or message not in told or bool(message) != bool(told):

@@ -20,7 +20,8 @@ static unsigned can_room(uint8_t node);                 /* how many frames the c
 static void can_send(const struct frame *frame);        /* copies the frame into the controller */
 static int wait_for_interrupt(void);                    /* 0 ends the example; a real driver never ends */
 static void source_is_silent(unsigned rx, int is_long); /* what the report says */
-static void stop(const char *call, uint64_t word);      /* refused though all was right: something else wrote the area */
+static void stranger(const struct frame *frame, unsigned place); /* no row, and where one belongs: tell each ID once */
+static void stop(const char *call, unsigned number);    /* refused though all was right: something else wrote the area */
 
 /* ---- what the interrupts leave for the loop. They call nothing of the gateway. */
 
@@ -65,37 +66,38 @@ static const uint8_t plan[] = {
 
 static int open_gateway(void)
 {
-    uint64_t opened = gateway_open(plan, sizeof plan, area, sizeof area);
-    if (gateway_number(opened) != 0) {
-        printf("plan refused %u at record %u\n", gateway_number(opened), gateway_refused_record(opened));
+    struct gateway_opened opened = gateway_open(plan, sizeof plan, area, sizeof area);
+    if (opened.number != 0) {
+        printf("plan refused %u at record %u\n", opened.number, opened.record);
         return 0;
     }
-    rx_frames = gateway_opened_rx(opened);
+    rx_frames = opened.rx;
     return 1;
 }
 
 static void hand_on(const struct frame *frame)
 {
-    uint64_t word = gateway_receive(area, sizeof area, frame->node, frame->id, frame->data, frame->length);
-    switch (gateway_number(word)) {
+    struct gateway_received received = gateway_receive(area, sizeof area, frame->node, frame->id, frame->data, frame->length);
+    switch (received.number) {
     case GATEWAY_ACCEPTED:
         break;
     case GATEWAY_NO_ROW:
         frames_without_row++;
+        stranger(frame, received.place);
         break;
     case GATEWAY_TOO_SHORT:
         frames_too_short++;
         break;
     default:
-        stop("receive", word);
+        stop("receive", received.number);
     }
 }
 
 static void tick(void)
 {
-    uint64_t word = gateway_tick(area, sizeof area, report, sizeof report);
-    if (gateway_number(word) != 0) {
-        stop("tick", word);
+    unsigned refusal = gateway_tick(area, sizeof area, report, sizeof report);
+    if (refusal != 0) {
+        stop("tick", refusal);
         return;
     }
     for (unsigned r = 0; r < rx_frames; r++)
@@ -107,15 +109,15 @@ static void tick(void)
 static void send(uint8_t node)
 {
     while (can_room(node) > 0) {
-        uint64_t taken = gateway_take(area, sizeof area, node);
-        if (gateway_number(taken) != 0)
-            stop("take", taken);
-        if (!gateway_is_frame(taken))
+        struct gateway_taken taken = gateway_take(area, sizeof area, node);
+        if (taken.number != 0)
+            stop("take", taken.number);
+        if (taken.kind == GATEWAY_NOTHING)
             return; /* none waits, or the take was refused */
-        uint64_t part = gateway_payload(area, sizeof area, taken);
-        struct frame frame = { gateway_frame_id(taken), node, (uint8_t)gateway_frame_size(taken), { 0 } };
-        for (size_t i = 0; i < gateway_payload_size(part) && i < sizeof frame.data; i++)
-            frame.data[i] = area[gateway_payload_place(part) + i]; /* before the next call */
+        struct gateway_payload payload = gateway_payload(area, sizeof area, taken);
+        struct frame frame = { taken.id, node, (uint8_t)taken.size, { 0 } };
+        for (size_t i = 0; i < payload.size && i < sizeof frame.data; i++)
+            frame.data[i] = area[payload.at + i]; /* before the next call */
         can_send(&frame);
     }
 }
@@ -186,8 +188,13 @@ static void source_is_silent(unsigned rx, int is_long)
     printf("tick %u: Rx frame %u is silent%s\n", now - 1, rx, is_long ? ", and for long" : "");
 }
 
-static void stop(const char *call, uint64_t word)
+static void stranger(const struct frame *frame, unsigned place)
 {
-    printf("%s refused %u\n", call, gateway_number(word));
+    printf("tick %u: node %u has no row for %03x; it belongs behind %u of that node's rows\n", now - 1, frame->node, (unsigned)frame->id, place);
+}
+
+static void stop(const char *call, unsigned number)
+{
+    printf("%s refused %u\n", call, number);
     stopped = 1;
 }

@@ -19,28 +19,30 @@ static unsigned rx_frames;
 /* Prints the first line; 0 says that the plan was refused. */
 static int open_plan(void)
 {
-    uint64_t opened = gateway_open(plan, sizeof plan, area, sizeof area);
-    if (gateway_number(opened) != 0) {
-        printf("plan refused %u %u\n", gateway_number(opened), gateway_refused_record(opened));
+    struct gateway_opened opened = gateway_open(plan, sizeof plan, area, sizeof area);
+    if (opened.number != 0) {
+        printf("plan refused %u %u\n", opened.number, opened.record);
         return 0;
     }
-    rx_frames = gateway_opened_rx(opened);
-    printf("plan ok %u %u %u\n", gateway_opened_nodes(opened), gateway_opened_tx(opened), rx_frames);
+    rx_frames = opened.rx;
+    printf("plan ok %u %u %u\n", opened.nodes, opened.tx, opened.rx);
     return 1;
 }
 
 static void receive(size_t node, uint32_t id, const uint8_t *payload, size_t length)
 {
-    unsigned answer = gateway_number(gateway_receive(area, sizeof area, node, id, payload, length));
-    if (answer > GATEWAY_TOO_SHORT)
-        printf("rx refused %u\n", answer);
+    struct gateway_received received = gateway_receive(area, sizeof area, node, id, payload, length);
+    if (received.number > GATEWAY_TOO_SHORT)
+        printf("rx refused %u\n", received.number);
+    else if (received.number == GATEWAY_NO_ROW)
+        printf("rx %u %u\n", received.number, received.place);
     else
-        printf("rx %u\n", answer);
+        printf("rx %u\n", received.number);
 }
 
 static void tick(void)
 {
-    unsigned refusal = gateway_number(gateway_tick(area, sizeof area, report, sizeof report));
+    unsigned refusal = gateway_tick(area, sizeof area, report, sizeof report);
     if (refusal != 0) {
         printf("tick refused %u\n", refusal);
         return;
@@ -53,23 +55,22 @@ static void tick(void)
 
 static void take(size_t node)
 {
-    uint64_t taken = gateway_take(area, sizeof area, node);
-    if (gateway_number(taken) != 0) {
-        printf("take refused %u\n", gateway_number(taken));
+    struct gateway_taken taken = gateway_take(area, sizeof area, node);
+    if (taken.number != 0) {
+        printf("take refused %u\n", taken.number);
         return;
     }
-    if (!gateway_is_frame(taken)) {
+    if (taken.kind == GATEWAY_NOTHING) {
         printf("take none\n");
         return;
     }
-    uint64_t part = gateway_payload(area, sizeof area, taken);
-    const uint8_t *payload = area + gateway_payload_place(part);
-    printf("take %u %u %u ", gateway_frame_tx(taken), gateway_frame_id(taken), gateway_frame_size(taken));
-    if (gateway_payload_size(part) == 0)
+    struct gateway_payload payload = gateway_payload(area, sizeof area, taken);
+    printf("take %u %u %u ", taken.tx, (unsigned)taken.id, taken.size);
+    if (payload.size == 0)
         printf("-");
-    for (size_t i = 0; i < gateway_payload_size(part); i++)
-        printf("%02x", payload[i]);
-    printf(" %u\n", gateway_frame_waiting(taken));
+    for (size_t i = 0; i < payload.size; i++)
+        printf("%02x", area[payload.at + i]);
+    printf(" %u\n", taken.waiting);
 }
 
 int main(void)

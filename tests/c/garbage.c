@@ -1,4 +1,5 @@
-/* Marked areas of random bytes through every call: each call comes back, and changes neither the mark nor a byte behind the area. */
+/* Marked areas of random bytes through every call: each call comes back, changes neither the mark nor a byte behind the area, and a payload lies
+   in the area. */
 #include "gateway.h"
 
 #include <stdio.h>
@@ -8,7 +9,8 @@
 
 static uint8_t area[BEHIND + GATEWAY_AREA_SIZE + BEHIND];
 static uint8_t report[GATEWAY_REPORT_SIZE];
-static unsigned answers[256];
+static unsigned answers[65536];
+static unsigned outside;
 static uint64_t state = SEED;
 
 /* splitmix64 */
@@ -26,22 +28,25 @@ static void call(uint8_t *own)
     uint8_t payload[9];
     for (unsigned i = 0; i < sizeof payload; i++)
         payload[i] = (uint8_t)next();
-    uint64_t word;
+    unsigned number;
     switch (next() % 4) {
     case 0:
-        word = gateway_receive(own, GATEWAY_AREA_SIZE, next() % 17, (uint32_t)(next() % 3 ? next() % 65536 : next()), payload, next() % 10);
+        number = gateway_receive(own, GATEWAY_AREA_SIZE, next() % 17, (uint32_t)(next() % 3 ? next() % 65536 : next()), payload, next() % 10).number;
         break;
     case 1:
-        word = gateway_tick(own, GATEWAY_AREA_SIZE, report, next() % 8 ? sizeof report : next() % 256);
+        number = gateway_tick(own, GATEWAY_AREA_SIZE, report, next() % 8 ? sizeof report : next() % 256);
         break;
-    case 2:
-        word = gateway_take(own, GATEWAY_AREA_SIZE, next() % 17);
-        word = gateway_number(word) ? word : gateway_payload(own, GATEWAY_AREA_SIZE, word);
+    case 2: {
+        struct gateway_taken taken = gateway_take(own, GATEWAY_AREA_SIZE, next() % 17);
+        struct gateway_payload part = gateway_payload(own, GATEWAY_AREA_SIZE, taken);
+        number = taken.number;
+        outside += part.at + part.size > GATEWAY_AREA_SIZE;
         break;
-    default:
-        word = gateway_fullness(own, GATEWAY_AREA_SIZE, next() % 300);
     }
-    answers[gateway_number(word)]++;
+    default:
+        number = gateway_fullness(own, GATEWAY_AREA_SIZE, next() % 300).number;
+    }
+    answers[number]++;
 }
 
 int main(void)
@@ -60,6 +65,10 @@ int main(void)
                 printf("byte %ld changed in round %u\n", (long)i - BEHIND, round);
                 return 1;
             }
+    }
+    if (outside) {
+        printf("%u payloads lie outside the area\n", outside);
+        return 1;
     }
     /* each answer that such an area can give */
     const unsigned met[] = {0, GATEWAY_NO_ROW, GATEWAY_REFUSED_NO_NODE, GATEWAY_REFUSED_LONG_PAYLOAD, GATEWAY_REFUSED_SHORT_REPORT, GATEWAY_REFUSED_NO_FRAME};

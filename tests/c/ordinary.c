@@ -22,10 +22,10 @@ int main(int argc, char **argv)
     char line[80];
     if (area == NULL)
         return EXIT_FAILURE;
-    uint64_t opened = gateway_open(plan, sizeof plan, area, GATEWAY_AREA_SIZE);
+    uint64_t number = gateway_open(plan, sizeof plan, area, GATEWAY_AREA_SIZE).number;
     bool marked = memcmp(area, "GW", strlen("GW")) == 0;
-    assert(opened <= UINT64_MAX && offsetof(struct pair, second) == 3);
-    snprintf(line, sizeof line, "%d %s %" PRIu64 " %" PRId64, argc, argv[argc - 1], opened, INT64_MIN);
+    assert(number <= UINT64_MAX && offsetof(struct pair, second) == 3);
+    snprintf(line, sizeof line, "%d %s %" PRIu64 " %" PRId64, argc, argv[argc - 1], number, INT64_MIN);
     puts(line);
     fprintf(stderr, "%s\n", marked ? "marked" : "not marked");
     free(area);

@@ -111,7 +111,7 @@ def show_events(part, plan, lines):
             meaning = [f'the run ends here{part.line(event.place)}: {bad_event(event)}']
         else:
             count_timeouts(plan, event, line, in_a_row)
-            meaning = answer_words(plan, line, in_a_row)
+            meaning = answer_words(plan, event, line, in_a_row)
         if len(line) <= SHORT_ANSWER[2]:
             row(SHORT_ANSWER, digits, words, clean(line), '\n'.join(meaning))
         else:

@@ -8,12 +8,12 @@ from view.records import EVENTS, RECORDS
 SENDS = {0: '', 1: ', sends on reception', 2: ', sends on change', 3: ', sends on reception and on change'}
 ANSWERS = {
     'rx 0': 'accepted',
-    'rx 1': 'not taken: this node has no row for the ID',
     'rx 2': "not taken: shorter than the row's size",
     'take none': 'nothing waits on this node',
 }
-LINE = re.compile(r'\w+ refused 1[1-5]|tick( [0-2])*|take \d+ \d+ [0-8] (-|[0-9a-f]+) \d+')
+LINE = re.compile(r'\w+ refused 1[1-5]|rx 1 \d+|tick( [0-2])*|take \d+ \d+ [0-8] (-|[0-9a-f]+) \d+')
 NO_LINE = 'no line of the bench program'
+MOST_ID = 2047
 
 
 def clean(text, limit=None):
@@ -125,7 +125,7 @@ def count_timeouts(plan, event, line, in_a_row):
             in_a_row[number] = in_a_row.get(number, 0) + (byte != '0')
 
 
-def answer_words(plan, line, in_a_row):
+def answer_words(plan, event, line, in_a_row):
     """A line of the program that answers an event, as a list of lines."""
     if line in ANSWERS:
         return [ANSWERS[line]]
@@ -134,11 +134,40 @@ def answer_words(plan, line, in_a_row):
     word, *rest = line.split()
     if rest[:1] == ['refused']:
         return [reason(rest[1]) + (f': {numbered(plan.nodes, "node")}' if rest[1] == '12' else '')]
+    if word == 'rx':
+        return no_row(plan, event, int(rest[1]))
     if word == 'tick':
         return list(timeouts(plan, rest, in_a_row)) or ['no timeout']
     tx, id_, _, payload, waiting = rest
     after = {'0': 'none waits', '1': '1 waits'}.get(waiting, f'{waiting} wait')
     return [f'Tx frame {tx} (ID 0x{int(id_):03x}), {after} after it', *values_in(plan, int(tx), bytes.fromhex(payload.strip('-')))]
+
+
+def no_row(plan, event, place):
+    """Where in the plan a row would stand for a frame that has none: between which Rx frames."""
+    if event.kind != 16 or not event.fields:
+        return [NO_LINE]
+    node = event.fields['node']
+    own = [number for number, frame in enumerate(plan.rx) if frame.node == node]
+    if place > len(own):
+        return [NO_LINE]
+    at = sum(frame.node < node for frame in plan.rx) + place
+
+    def named(number):
+        frame = plan.rx[number]
+        return f'Rx frame {number}, ' + (f'ID 0x{frame.id:03x}' if frame.node == node else f'of node {frame.node}')
+
+    if event.fields['ID'] > MOST_ID:
+        where = f'no row can have it: the greatest ID is 0x{MOST_ID:03x}'
+    elif not plan.rx:
+        where = 'its place: the plan has no rows'
+    elif at == 0:
+        where = f'its place: before {named(0)}'
+    elif at == len(plan.rx):
+        where = f'its place: behind {named(at - 1)}'
+    else:
+        where = f'its place: between {named(at - 1)}, and {named(at)}'
+    return ['not taken: this node has no row for the ID', f'    {where}']
 
 
 def timeouts(plan, report, in_a_row):

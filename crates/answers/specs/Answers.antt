@@ -18,6 +18,6 @@ refusalNumber NoFrame = 15
 -- "answer 0", "answer 1", "answer 2"; a refused reception has its refusal's number
 unfoldable pub receivedNumber : Received → ℕ
 receivedNumber Accepted = 0
-receivedNumber NoRow = 1
+receivedNumber (NoRow place) = 1
 receivedNumber TooShort = 2
 receivedNumber (Refused why) = refusalNumber why

@@ -31,8 +31,8 @@ pub enum Opened {
 pub enum Received {
     // 0
     Accepted,
-    // 1: a frame with no matching row
-    NoRow,
+    // 1: a frame with no matching row; `place` of that node's rows have a smaller ID
+    NoRow { place: usize },
     // 2: a payload shorter than the row's size
     TooShort,
     Refused(Refusal),

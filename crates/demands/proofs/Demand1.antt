@@ -72,7 +72,7 @@ numbers =
       fourteen = refl;
       fifteen = refl;
       accepted = refl;
-      no-row = refl;
+      no-row = λ place. refl;
       too-short = refl;
       refused = λ why. refl;
     }

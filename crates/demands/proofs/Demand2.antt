@@ -5,6 +5,7 @@ use Rattle.model.proofs.RxExpiry.{rx-expiry}
 use Rattle.model.proofs.TxExpiry.{tx-expiry}
 use Rattle.model.proofs.Listing.{listing-answered, gaps-answered}
 use Rattle.history.proofs.LongTimeouts.{long-timeouts}
+use Rattle.history.proofs.Strangers.{strangers-belong}
 use Rattle.refines.proofs.All.{as-the-model}
 use Rattle.refines.proofs.Listing.{listing-on-bytes}
 use Rattle.demands.proofs.Texts.{texts}
@@ -21,6 +22,7 @@ demand-2 =
       tx-expiry = tx-expiry;
       long-timeouts = long-timeouts;
       gaps = gaps-answered;
+      strangers = strangers-belong;
       listing = listing-answered;
       on-bytes = listing-on-bytes;
     }

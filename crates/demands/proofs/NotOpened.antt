@@ -48,7 +48,7 @@ module _ (a : List ℕ) where
 
   unrefused : (payload : List ℕ) (why : Refusal) (f : Found) → foundAnswer a f payload ≡ ofReception.Refused why → ⊥
   unfolding foundAnswer
-  unrefused payload why Nothing = λ e. no cc
+  unrefused payload why (Nothing place) = λ e. no cc
   unrefused payload why (At r) = both (λ x. x ≡ ofReception.Refused why → ⊥) _ _ _ (λ e. no cc) (λ e. no cc)
 
   pub taken-unrefused : (n : ℕ) (why : Refusal) → oldestAnswer a n ≡ ofTake.Refused why → ⊥

@@ -1,11 +1,13 @@
 -- Demand 2: "Lookup, signal copy, timers, failure bits, timeout reports, sending order and every count answered are exactly the rules of Freescale
 -- AN3333 as document 01 states them: each rule's case is acted on, and nothing else is." And, of document 02, Ticket 1: "The long counter must start
--- again at every accepted reception, so that a long timeout means that many expiries in a row."
+-- again at every accepted reception, so that a long timeout means that many expiries in a row." Ticket 4: "A lookup that finds nothing should say how
+-- many of that node's rows have a smaller ID. Answer 1 carries this number".
 use Rattle.model.specs.Rules.{ModelMeets, RulesDecide}
 use Rattle.model.specs.Timers.{RxExpiry, TxExpiry}
 use Rattle.model.specs.Listing.{ListingAnswered}
 use Rattle.model.specs.ShortGaps.{GapsAnswered}
 use Rattle.history.specs.LongTimeouts.{LongTimeouts}
+use Rattle.history.specs.Strangers.{StrangersBelong}
 use Rattle.refines.specs.Shows.{AsTheModel}
 use Rattle.refines.specs.Listing.{ListingOnBytes}
 use Rattle.demands.specs.Texts.{Texts}
@@ -24,6 +26,8 @@ pub record Demand2 : Type 0 where
   -- "a long timeout means that many expiries in a row": over any calls, from what the caller sees, and as a case
   pub long-timeouts : LongTimeouts
   pub gaps : GapsAnswered
+  -- "its place in the plan sheet": over any calls, from what the caller sees, in the plan's terms
+  pub strangers : StrangersBelong
   -- document 01's listing, of the model and of the bytes
   pub listing : ListingAnswered
   pub on-bytes : ListingOnBytes

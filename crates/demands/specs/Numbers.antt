@@ -1,5 +1,6 @@
 -- The numbers that document 01 gives to refusals and to a reception's answers.
 use mathlib.Core.Path.{_≡_}
+use Prim.Native.Nat.{ℕ}
 use Rattle.plan.specs.declared.verdict.Reason.the-variants.{Short, Kind, Place, Count, Range, Order, Data, Owner, Indicator}
 use Rattle.answers.specs.declared.Refusal.{Refusal}
 use Rattle.answers.specs.declared.Refusal.the-variants.{Plan, ShortArea, NotOpen, NoNode, LongPayload, ShortReport, NoFrame}
@@ -24,6 +25,6 @@ pub record Numbers : Type 0 where
   pub fifteen : refusalNumber NoFrame ≡ 15
   -- "answer 0", "answer 1", "answer 2"; a refused reception has its refusal's number
   pub accepted : receivedNumber Accepted ≡ 0
-  pub no-row : receivedNumber NoRow ≡ 1
+  pub no-row : (place : ℕ) → receivedNumber (NoRow place) ≡ 1
   pub too-short : receivedNumber TooShort ≡ 2
   pub refused : (why : Refusal) → receivedNumber (Refused why) ≡ refusalNumber why

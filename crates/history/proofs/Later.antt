@@ -41,7 +41,7 @@ module _ (plan : List ℕ) (good : GoodPlan plan) where
   pub row-found : (a : List ℕ) → Reads plan a → (n id : ℕ) (payload : List ℕ) (r : RxNumber) → For a n id payload r → r .0 < length (rowsOf plan)
   unfolding lookedUp
   row-found a reads n id payload r f =
-      let among = found-among (rowCount a n + 1) a (rowCount a n) (firstRow a n) id r (f .found) in
+      let among = found-among (rowCount a n + 1) a (firstRow a n) 0 (rowCount a n) id r (f .found) in
       omega (arith, reads .node n (omega (arith, f .known, at-most-le 16 (byteAt a nodeCountByte))) .within)
 
   -- an event's claims, over places that are no payload's either

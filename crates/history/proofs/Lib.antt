@@ -12,5 +12,7 @@ pub mod Receptions
 pub mod Steps
 pub mod Longs
 pub mod LongTimeouts
+pub mod Inserted
+pub mod Strangers
 pub mod Only
 pub mod Demand3

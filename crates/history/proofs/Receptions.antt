@@ -46,6 +46,6 @@ module _ {plan : List ℕ} (good : GoodPlan plan) where
     where
       other : (x : Received) → (x ≡ Accepted → ⊥) → now a ≡ replay turn (toldReception x (numberFor n id (rowsOf plan)) payload) (now a)
       other Accepted d = absurd (d refl)
-      other NoRow d = refl
+      other (NoRow place) d = refl
       other TooShort d = refl
       other (Refused why) d = refl

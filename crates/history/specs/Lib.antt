@@ -3,3 +3,4 @@ pub mod Past
 pub mod Fresh
 pub mod Statements
 pub mod LongTimeouts
+pub mod Strangers

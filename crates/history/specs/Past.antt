@@ -36,7 +36,7 @@ numberFor n id (r ∷ rs) = pick (eqb (r .frame .node) n) (pick (eqb (r .frame .
 
 unfoldable pub toldReception : Received → ℕ → List ℕ → List RxEvent
 toldReception Accepted r payload = accepted r payload ∷ []
-toldReception NoRow r payload = []
+toldReception (NoRow place) r payload = []
 toldReception TooShort r payload = []
 toldReception (Refused why) r payload = []
 

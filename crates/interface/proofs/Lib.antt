@@ -1,4 +1,3 @@
-pub mod WordLaws
 pub mod Parts
 pub mod Numbers
 pub mod Records

@@ -7,7 +7,7 @@ use Rattle.plan.specs.Refusals.{numberOf}
 use Rattle.answers.specs.declared.Refusal.{Refusal}
 use Rattle.answers.specs.declared.Refusal.the-variants.{Plan, ShortArea, NotOpen, NoNode, LongPayload, ShortReport, NoFrame}
 use Rattle.answers.specs.Answers.{refusalNumber}
-use Rattle.interface.specs.Unpacked.{refusals, refusalOf}
+use Rattle.interface.specs.Back.{refusals, refusalOf}
 
 pub record Numbered (why : Refusal) : Type 0 where
   pub back : refusalOf (refusalNumber why) ≡ why

@@ -1,4 +1,4 @@
--- The words of a reception, a tick and a fullness give back their answers, so no two answers of one of these calls have one word.
+-- The structs of a reception and a fullness, and the number of a tick, give back the answer: no two answers of such a call are the same to C.
 use mathlib.Core.Path.{_≡_, refl}
 use mathlib.Core.List.{List}
 use Prim.Native.Nat.{ℕ, _%_, _≤_, _<_}
@@ -22,66 +22,71 @@ use Rattle.reception.specs.declared.lookup.Found.{Found}
 use Rattle.reception.specs.declared.lookup.Found.the-variants.{At, Nothing}
 use Rattle.reception.specs.Lookup.{lookedUp}
 use Rattle.reception.specs.Reception.{foundAnswer, receivedAnswer}
+use Rattle.reception.proofs.Search.{place-small}
 use Rattle.taking.specs.Taken.{fullnessAnswer}
-use Rattle.interface.specs.Words.{first, tickedWord, fullnessWord}
-use Rattle.interface.specs.Unpacked.{receivedOf, tickedOf, fullnessOf}
-use Rattle.interface.proofs.WordLaws.{first-packed, second-packed}
+use Rattle.interface.specs.Structs.{receivedStruct, tickedNumber, fullnessStruct}
+use Rattle.interface.specs.Back.{receivedOf, tickedOf, fullnessOf}
 use Rattle.interface.proofs.Numbers.{numbered}
 
 -- ---- reception: its refusals are above its answers 0, 1 and 2
 
 abbrev ReceivedBack : Received → Type 0
-ReceivedBack x = receivedOf (receivedNumber x) ≡ x
+ReceivedBack x = receivedOf (receivedStruct x) ≡ x
 
 received-refused : (why : Refusal) → 3 ≤ refusalNumber why → ReceivedBack (received.Refused why)
-unfolding receivedOf receivedNumber pick
+unfolding receivedOf receivedStruct pick
 received-refused why l =
     let k = refusalNumber why in
     rw (ne-eqb k 0 (omega arith), ne-eqb k 1 (omega arith), ne-eqb k 2 (omega arith), numbered why .back)
 
-answers-back : ReceivedBack received.Accepted × ReceivedBack received.NoRow × ReceivedBack received.TooShort
-unfolding receivedOf receivedNumber pick
-answers-back = (refl, refl, refl)
+answers-back : ReceivedBack received.Accepted × ReceivedBack received.TooShort
+unfolding receivedOf receivedStruct receivedNumber pick
+answers-back = (refl, refl)
 
-found-back : (a : List ℕ) (f : Found) (payload : List ℕ) → ReceivedBack (foundAnswer a f payload)
-unfolding foundAnswer
-found-back a (At r) payload = both ReceivedBack _ _ _ (answers-back .2) (answers-back .0)
-found-back a Nothing payload = answers-back .1
+place-back : (place : ℕ) → place < 65536 → ReceivedBack (received.NoRow place)
+unfolding receivedOf receivedStruct receivedNumber pick
+place-back place l = let e : place % 65536 ≡ place = omega arith in rw e
+
+found-back : (a : List ℕ) (n id : ℕ) (payload : List ℕ) → ReceivedBack (foundAnswer a (lookedUp a n id) payload)
+found-back a n id payload = go (lookedUp a n id) refl
+  where
+    go : (f : Found) → lookedUp a n id ≡ f → ReceivedBack (foundAnswer a f payload)
+    go (At r) e = unfold foundAnswer in both ReceivedBack _ _ _ (answers-back .1) (answers-back .0)
+    go (Nothing place) e = unfold foundAnswer in place-back place (omega (arith, place-small a n id place e))
 
 pub received-back :
-    (a : List ℕ) (n id : ℕ) (payload : List ℕ) → receivedOf (receivedNumber (receivedAnswer a n id payload)) ≡ receivedAnswer a n id payload
+    (a : List ℕ) (n id : ℕ) (payload : List ℕ) → receivedOf (receivedStruct (receivedAnswer a n id payload)) ≡ receivedAnswer a n id payload
 unfolding receivedAnswer refusalNumber
 received-back a n id payload =
     both ReceivedBack _ _ _
     (both ReceivedBack _ _ _
-    (both ReceivedBack _ _ _ (found-back a (lookedUp a n id) payload) (received-refused LongPayload (omega arith)))
+    (both ReceivedBack _ _ _ (found-back a n id payload) (received-refused LongPayload (omega arith)))
     (received-refused NoNode (omega arith)))
     (received-refused NotOpen (omega arith))
 
 -- ---- tick
 
-pub ticked-back : (x : Ticked) → tickedOf (tickedWord x) ≡ x
-unfolding tickedOf tickedWord pick
+pub ticked-back : (x : Ticked) → tickedOf (tickedNumber x) ≡ x
+unfolding tickedOf tickedNumber pick
 ticked-back ticked.Done = refl
 ticked-back (ticked.Refused why) = let n = numbered why in rw (ne-eqb (refusalNumber why) 0 (omega arith), n .back)
 
 -- ---- fullness
 
 abbrev FullnessBack : Fullness → Type 0
-FullnessBack x = fullnessOf (fullnessWord x) ≡ x
+FullnessBack x = fullnessOf (fullnessStruct x) ≡ x
 
 fullness-refused : (why : Refusal) → FullnessBack (fullness.Refused why)
-unfolding fullnessOf fullnessWord first pick
+unfolding fullnessOf fullnessStruct pick
 fullness-refused why =
     let n = numbered why in
-    let e : refusalNumber why % 65536 ≡ refusalNumber why = omega arith in
-    rw (e, ne-eqb (refusalNumber why) 0 (omega arith), n .back)
+    rw (ne-eqb (refusalNumber why) 0 (omega arith), n .back)
 
 owned-back : (n : ℕ) → n < 65 → FullnessBack (fullness.Owned n)
-unfolding fullnessOf fullnessWord pick
-owned-back n h = let e : n % 65536 ≡ n = omega arith in rw (first-packed, second-packed, e)
+unfolding fullnessOf fullnessStruct pick
+owned-back n h = let e : n % 65536 ≡ n = omega arith in rw e
 
-pub fullness-back : (a : List ℕ) (t : ℕ) → fullnessOf (fullnessWord (fullnessAnswer a t)) ≡ fullnessAnswer a t
+pub fullness-back : (a : List ℕ) (t : ℕ) → fullnessOf (fullnessStruct (fullnessAnswer a t)) ≡ fullnessAnswer a t
 unfolding fullnessAnswer
 fullness-back a t =
     let few = at-most-le 64 (lowAt a (full t)) in

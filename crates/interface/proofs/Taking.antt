@@ -1,7 +1,7 @@
--- A take's word gives back its answer, so no two answers have one word.
+-- A take's struct gives back its answer, so no two answers have one struct.
 use mathlib.Core.Path.{_≡_, refl}
 use mathlib.Core.List.{List}
-use Prim.Native.Nat.{ℕ, _+_, _*_, _/_, _%_, _<_}
+use Prim.Native.Nat.{ℕ, _+_, _%_, _<_}
 use native.Mathlib.Omega.{arith}
 use borrow.Author.Tests.{ne-eqb}
 use Rattle.base.specs.Pick.{pick}
@@ -17,35 +17,31 @@ use Rattle.answers.specs.declared.Taken.{Taken}
 use Rattle.answers.specs.declared.Taken.the-variants.{Nothing, Frame, Refused}
 use Rattle.answers.specs.Answers.{refusalNumber}
 use Rattle.taking.specs.Taken.{oldestAnswer, takenAnswer}
-use Rattle.interface.specs.Words.{first, takenWord}
-use Rattle.interface.specs.Unpacked.{takenOf}
-use Rattle.interface.proofs.WordLaws.{first-packed, second-packed, third-packed, fourth-packed}
+use Rattle.interface.specs.Structs.{noFrame, takenStruct}
+use Rattle.interface.specs.Back.{takenOf}
 use Rattle.interface.proofs.Numbers.{numbered}
 
 abbrev Back : Taken → Type 0
-Back x = takenOf (takenWord x) ≡ x
+Back x = takenOf (takenStruct x) ≡ x
 
 nothing-back : Back Nothing
-unfolding takenOf takenWord first pick
+unfolding takenOf takenStruct noFrame pick
 nothing-back = refl
 
 refused-back : (why : Refusal) → Back (Refused why)
-unfolding takenOf takenWord first pick
+unfolding takenOf takenStruct noFrame pick
 refused-back why =
     let n = numbered why in
-    rw (ne-eqb (refusalNumber why % 65536) 256 (omega arith), ne-eqb (refusalNumber why) 0 (omega arith), n .back)
+    rw (ne-eqb (refusalNumber why) 0 (omega arith), n .back)
 
 frame-back : (t id size waiting : ℕ) → t < 256 → id < 65536 → size < 16 → waiting < 65536 → Back (Frame (record { 0 = t }) id size waiting)
-unfolding takenOf takenWord pick
+unfolding takenOf takenStruct pick
 frame-back t id size waiting ht hi hs hw =
-    let st : t % 256 ≡ t = omega arith in
-    let ss : size % 256 ≡ size = omega arith in
-    let sf : (t + 256 * size) % 65536 ≡ t + 256 * size = omega arith in
-    let et : (t + 256 * size) % 256 ≡ t = omega arith in
-    let es : (t + 256 * size) / 256 ≡ size = omega arith in
-    let ei : id % 65536 ≡ id = omega arith in
+    let et : t % 65536 ≡ t = omega arith in
+    let es : size % 65536 ≡ size = omega arith in
+    let ei : id % 4294967296 ≡ id = omega arith in
     let ew : waiting % 65536 ≡ waiting = omega arith in
-    rw (st, ss, first-packed, second-packed, third-packed, fourth-packed, sf, et, es, ei, ew)
+    rw (et, es, ei, ew)
 
 oldest-small : (a : List ℕ) (n : ℕ) → oldest a n < 256
 unfolding oldest
@@ -69,6 +65,6 @@ oldest-back a n b =
     both Back _ _ _ nothing-back
     (frame-back _ _ _ _ (oldest-small a n) (id-small a (oldest a n) b) (omega arith) (omega (arith, waiting-small a n b)))
 
-pub taken-back : (a : List ℕ) (n : ℕ) → Bytes a → takenOf (takenWord (takenAnswer a n)) ≡ takenAnswer a n
+pub taken-back : (a : List ℕ) (n : ℕ) → Bytes a → takenOf (takenStruct (takenAnswer a n)) ≡ takenAnswer a n
 unfolding takenAnswer
 taken-back a n b = both Back _ _ _ (both Back _ _ _ (oldest-back a n b) (refused-back NoNode)) (refused-back NotOpen)

@@ -1,2 +1,2 @@
-pub mod Words
-pub mod Unpacked
+pub mod Structs
+pub mod Back

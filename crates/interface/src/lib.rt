@@ -1,12 +1,17 @@
-// The calls for C: numbers and slices only, each answer packed into one word. include/gateway.h declares them and takes the words apart.
-mod words;
+// The calls for C: numbers and slices in, a struct or a number out. include/gateway.h declares the same.
+mod structs;
 
-use crate::words::fullness_word;
-use crate::words::opened_word;
-use crate::words::payload_word;
-use crate::words::received_number;
-use crate::words::taken_word;
-use crate::words::ticked_word;
+use crate::structs::GatewayFullness;
+use crate::structs::GatewayOpened;
+use crate::structs::GatewayPayload;
+use crate::structs::GatewayReceived;
+use crate::structs::GatewayTaken;
+use crate::structs::fullness_struct;
+use crate::structs::opened_struct;
+use crate::structs::payload_struct;
+use crate::structs::received_struct;
+use crate::structs::taken_struct;
+use crate::structs::ticked_number;
 use opening::open::open;
 use reception::receive::receive;
 use taking::fullness;
@@ -16,67 +21,71 @@ ghost use mathlib.Core.Path.{_≡_};
 ghost use Prim.Native.Nat.{_+_, _≤_};
 ghost use lib.ListN.{length, take, drop};
 ghost use Rattle.plan.specs.Check.{checkPlan};
-ghost use Rattle.answers.specs.Answers.{receivedNumber};
 ghost use Rattle.opening.specs.Opened.{openedAnswer, openedArea};
 ghost use Rattle.reception.specs.Reception.{receivedAnswer, receivedArea};
 ghost use Rattle.ticking.specs.Tick.{tickAnswer, tickedArea, tickedReport};
 ghost use Rattle.taking.specs.Taken.{takenAnswer, takenArea, takenPayload, fullnessAnswer};
-ghost use Rattle.interface.specs.Words.{second, third, openedWord, tickedWord, takenWord, fullnessWord, payloadWord};
-ghost use Rattle.interface.specs.Unpacked.{takenOf};
+ghost use Rattle.interface.specs.Structs.{openedStruct, receivedStruct, tickedNumber, takenStruct, payloadStruct, fullnessStruct};
+ghost use Rattle.interface.specs.Back.{takenOf};
 
 // Checks the plan, and fills the area.
 #[no_mangle]
-pub extern "C" fn gateway_open(plan: &[u8], area: &mut [u8]) -> u64
-    ensures answer { λ r. ⌜ r ≡ openedWord (openedAnswer (checkPlan (now (plan .entry))) (length (now (area .entry)))) ⌝ }
+pub extern "C" fn gateway_open(plan: &[u8], area: &mut [u8]) -> GatewayOpened
+    ensures answer { λ r. ⌜ r ≡ openedStruct (openedAnswer (checkPlan (now (plan .entry))) (length (now (area .entry)))) ⌝ }
     ensures bytes { λ r. ⌜ now (area .exit) ≡
         openedArea (openedAnswer (checkPlan (now (plan .entry))) (length (now (area .entry)))) (now (plan .entry)) (now (area .entry)) ⌝ }
 {
-    opened_word(open(plan, area))
+    opened_struct(open(plan, area))
 }
 
 // A frame that a node received.
 #[no_mangle]
-pub extern "C" fn gateway_receive(area: &mut [u8], node: usize, id: u32, payload: &[u8]) -> u64
-    ensures answer { λ r. ⌜ r ≡ receivedNumber (receivedAnswer (now (area .entry)) node id (now (payload .entry))) ⌝ }
+pub extern "C" fn gateway_receive(
+    area: &mut [u8],
+    node: usize,
+    id: u32,
+    payload: &[u8],
+) -> GatewayReceived
+    ensures answer { λ r. ⌜ r ≡ receivedStruct (receivedAnswer (now (area .entry)) node id (now (payload .entry))) ⌝ }
     ensures bytes { λ r. ⌜ now (area .exit) ≡ receivedArea (now (area .entry)) node id (now (payload .entry)) ⌝ }
 {
-    received_number(receive(area, node, id, payload))
+    received_struct(receive(area, node, id, payload))
 }
 
 // One tick of the clock, with a byte of the report for each Rx frame.
 #[no_mangle]
-pub extern "C" fn gateway_tick(area: &mut [u8], report: &mut [u8]) -> u64
-    ensures answer { λ r. ⌜ r ≡ tickedWord (tickAnswer (now (area .entry)) (now (report .entry))) ⌝ }
+pub extern "C" fn gateway_tick(area: &mut [u8], report: &mut [u8]) -> u16
+    ensures answer { λ r. ⌜ r ≡ tickedNumber (tickAnswer (now (area .entry)) (now (report .entry))) ⌝ }
     ensures bytes { λ r. ⌜ now (area .exit) ≡ tickedArea (tickAnswer (now (area .entry)) (now (report .entry))) (now (area .entry)) ⌝ }
     ensures report { λ r. ⌜ now (report .exit) ≡
         tickedReport (tickAnswer (now (area .entry)) (now (report .entry))) (now (area .entry)) (now (report .entry)) ⌝ }
 {
-    ticked_word(tick(area, report))
+    ticked_number(tick(area, report))
 }
 
 // The oldest frame that waits on a node, which then waits no more.
 #[no_mangle]
-pub extern "C" fn gateway_take(area: &mut [u8], node: usize) -> u64
-    ensures answer { λ r. ⌜ r ≡ takenWord (takenAnswer (now (area .entry)) node) ⌝ }
+pub extern "C" fn gateway_take(area: &mut [u8], node: usize) -> GatewayTaken
+    ensures answer { λ r. ⌜ r ≡ takenStruct (takenAnswer (now (area .entry)) node) ⌝ }
     ensures bytes { λ r. ⌜ now (area .exit) ≡ takenArea (now (area .entry)) node ⌝ }
 {
-    taken_word(take(area, node))
+    taken_struct(take(area, node))
 }
 
-// Where the payload of a frame that was taken stands in the area, and its size. `taken` is the word of the take.
+// Where the payload of a frame that was taken stands in the area, and its size. `taken` is what the take answered.
 #[no_mangle]
-pub extern "C" fn gateway_payload(area: &[u8], taken: u64) -> u64
-    ensures answer { λ r. ⌜ r ≡ payloadWord (length (now (area .entry))) (takenOf taken) ⌝ }
-    ensures part { λ r. ⌜ take (second r) (drop (third r) (now (area .entry))) ≡ takenPayload (now (area .entry)) (takenOf taken) ⌝ }
-    ensures inside { λ r. ⌜ third r + second r ≤ length (now (area .entry)) ⌝ }
+pub extern "C" fn gateway_payload(area: &[u8], taken: GatewayTaken) -> GatewayPayload
+    ensures answer { λ r. ⌜ r ≡ payloadStruct (length (now (area .entry))) (takenOf taken) ⌝ }
+    ensures part { λ r. ⌜ take (r .size) (drop (r .at) (now (area .entry))) ≡ takenPayload (now (area .entry)) (takenOf taken) ⌝ }
+    ensures inside { λ r. ⌜ r .at + r .size ≤ length (now (area .entry)) ⌝ }
 {
-    payload_word(area.len(), taken)
+    payload_struct(area.len(), taken)
 }
 
 // How many bits of a Tx frame have an owner.
 #[no_mangle]
-pub extern "C" fn gateway_fullness(area: &[u8], tx: usize) -> u64
-    ensures answer { λ r. ⌜ r ≡ fullnessWord (fullnessAnswer (now (area .entry)) tx) ⌝ }
+pub extern "C" fn gateway_fullness(area: &[u8], tx: usize) -> GatewayFullness
+    ensures answer { λ r. ⌜ r ≡ fullnessStruct (fullnessAnswer (now (area .entry)) tx) ⌝ }
 {
-    fullness_word(fullness(area, tx))
+    fullness_struct(fullness(area, tx))
 }

@@ -43,7 +43,7 @@ pub listing-lines :
     ∷ tickLine ticked.Done (2 ∷ [])
     ∷ rxLine received.Accepted
     ∷ takeLine taken.Nothing []
-    ∷ rxLine received.NoRow
+    ∷ rxLine (received.NoRow 1)
     ∷ rxLine received.TooShort
     ∷ []
     ≡ ascii "plan ok 1 1 1\n"
@@ -57,15 +57,17 @@ pub listing-lines :
     ∷ ascii "tick 2\n"
     ∷ ascii "rx 0\n"
     ∷ ascii "take none\n"
-    ∷ ascii "rx 1\n"
+    ∷ ascii "rx 1 1\n"
     ∷ ascii "rx 2\n"
     ∷ []
 unfolding planLine rxLine tickLine takeLine frameLine payloadText wordLine numbersLine receivedNumber each spaced decimal decimalIn hexByte glyph pick
 listing-lines = refl
 
--- the lines that the listing has not: refusals, an empty report, more than one report byte, a frame of size 0, bad input
+-- the lines that the listing has not: other places of a frame without a row, refusals, an empty report, more than one report byte, a frame of size 0, bad input
 pub other-lines :
     planLine (opened.Refused (Plan Indicator) 12)
+    ∷ rxLine (received.NoRow 0)
+    ∷ rxLine (received.NoRow 256)
     ∷ rxLine (received.Refused LongPayload)
     ∷ tickLine (ticked.Refused NotOpen) []
     ∷ takeLine (taken.Refused NoNode) []
@@ -75,6 +77,8 @@ pub other-lines :
     ∷ badLine
     ∷ []
     ≡ ascii "plan refused 9 12\n"
+    ∷ ascii "rx 1 0\n"
+    ∷ ascii "rx 1 256\n"
     ∷ ascii "rx refused 13\n"
     ∷ ascii "tick refused 11\n"
     ∷ ascii "take refused 12\n"
@@ -83,7 +87,8 @@ pub other-lines :
     ∷ ascii "take 255 2047 0 - 3\n"
     ∷ ascii "input bad\n"
     ∷ []
-unfolding planLine rxLine tickLine takeLine frameLine payloadText badLine wordLine numbersLine refusalNumber numberOf each spaced decimal decimalIn glyph pick
+unfolding planLine rxLine tickLine takeLine frameLine payloadText badLine wordLine numbersLine refusalNumber numberOf receivedNumber each spaced decimal decimalIn
+    glyph pick
 other-lines = refl
 
 -- the listing's input: the plan's length, the plan, the events

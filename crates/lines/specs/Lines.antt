@@ -30,10 +30,10 @@ unfoldable pub planLine : Opened → List ℕ
 planLine (opened.Open nodes tx rx) = numbersLine (ascii "plan ok") (nodes ∷ tx ∷ rx ∷ [])
 planLine (opened.Refused why at) = numbersLine (ascii "plan refused") (refusalNumber why ∷ at ∷ [])
 
--- "`rx ANSWER`"
+-- "`rx ANSWER`"; "the bench prints `rx 1 PLACE`" (document 02, Ticket 4)
 unfoldable pub rxLine : Received → List ℕ
 rxLine received.Accepted = numbersLine (ascii "rx") (receivedNumber received.Accepted ∷ [])
-rxLine received.NoRow = numbersLine (ascii "rx") (receivedNumber received.NoRow ∷ [])
+rxLine (received.NoRow place) = numbersLine (ascii "rx") (receivedNumber (received.NoRow place) ∷ place ∷ [])
 rxLine received.TooShort = numbersLine (ascii "rx") (receivedNumber received.TooShort ∷ [])
 rxLine (received.Refused why) = refusedLine (ascii "rx") why
 

@@ -115,7 +115,7 @@ pub fn rx_line(answer: Received, line: &mut [u8]) -> usize
 {
     match answer {
         Received::Accepted => line_of_one(b"rx", 0, line),
-        Received::NoRow => line_of_one(b"rx", 1, line),
+        Received::NoRow { place } => line_of_two(b"rx", 1, place, line),
         Received::TooShort => line_of_one(b"rx", 2, line),
         Received::Refused(why) => line_of_one(b"rx refused", refusal_number(why), line),
     }

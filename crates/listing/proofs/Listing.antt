@@ -17,7 +17,7 @@ use Rattle.events.specs.Events.{frontOf, eventLength, wholeEvent, eventAt, even
 use Rattle.lines.specs.Lines.{wordLine, numbersLine, planLine, rxLine, tickLine, payloadText, frameLine, takeLine, badLine}
 use Rattle.model.specs.Opening.{mapped, begun, openAnswer}
 use Rattle.model.specs.Scheduling.{isIn, joined, scheduled}
-use Rattle.model.specs.Reception.{find, sentIf, putBy, put, restarted, accepted, foundAnswer, foundState, receivedAnswer, received}
+use Rattle.model.specs.Reception.{find, smaller, sentIf, putBy, put, restarted, accepted, foundAnswer, foundState, receivedAnswer, received}
 use Rattle.model.specs.Tick.{handled, txLowered, txTurn, txTurns, failedBy, failed, expired, rxLowered, rxTurn, rxTurns, reportOf, reported}
 use Rattle.model.specs.Tick.{tickedState, tickAnswer, ticked, tickReport}
 use Rattle.model.specs.Take.{oldestAnswer, oldestPayload, withoutOldest, takenAnswer, takenPayload, taken}
@@ -33,7 +33,7 @@ pub listing-holds : ListingHolds
 unfolding pick digit setDigit digitOf bitAt setBit copied differs lowered formOf lengthOf eightAt txAt rxAt fieldsAt kindOf recordAt sizeOf
     recordsFrom recordsAt records widthOf withFailure claimsFrom awaited rowOf rowsFrom rowsOf allClaims txFrames txOf nodesIn orderIn mapped
     begun openAnswer isIn joined scheduled handled txLowered txTurn txTurns failedBy failed expired rxLowered rxTurn rxTurns reportOf reported
-    tickedState tickAnswer ticked tickReport oldestAnswer oldestPayload withoutOldest takenAnswer takenPayload taken find sentIf putBy put
+    tickedState tickAnswer ticked tickReport oldestAnswer oldestPayload withoutOldest takenAnswer takenPayload taken find smaller sentIf putBy put
     restarted accepted foundAnswer foundState receivedAnswer received answerOf nextOf answerFrom nextFrom openNext theModel replyOf worldAfter replies
     refusalNumber receivedNumber glyph decimalIn decimal hexByte each spaced frontOf eventLength wholeEvent eventAt eventSize payloadAt wordLine
     numbersLine planLine rxLine tickLine payloadText frameLine takeLine badLine askedBy askedIn askedFrom answerLine lineOf linesOf askedOf textOf

@@ -39,7 +39,7 @@ text =
     ++ ascii "tick 2\n"
     ++ ascii "rx 0\n"
     ++ ascii "take none\n"
-    ++ ascii "rx 1\n"
+    ++ ascii "rx 1 1\n"
     ++ ascii "rx 2\n"
 
 abbrev pub ListingHolds : Type 0

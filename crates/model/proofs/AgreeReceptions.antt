@@ -11,12 +11,13 @@ use lib.Seq.{ext-getD}
 use Rattle.bits.specs.Payload.{bitAt, differs}
 use Rattle.bits.proofs.CopyLaws.{differs-exactly}
 use Rattle.plan.specs.Rows.{Source, copy, failure, Claim}
+use Rattle.answers.specs.declared.Received.the-variants.{NoRow}
 use Rattle.model.specs.Plan.{Plan, txIn, rowIn}
 use Rattle.model.specs.State.{State, keptOf, queueOn}
-use Rattle.model.specs.Calls.{reception, Running}
+use Rattle.model.specs.Calls.{reception, received, Running}
 use Rattle.model.specs.Words.{In, Names, Shape}
-use Rattle.model.specs.ReceptionRules.{Copies, Wanted, Differs, Schedules, Puts, InOrder, Becomes, Restarts, Accepts, ReceptionRules}
-use Rattle.model.proofs.Words.{state-same, dec-either, dec-both, dec-in}
+use Rattle.model.specs.ReceptionRules.{Copies, Wanted, Differs, Schedules, Puts, InOrder, Becomes, Restarts, Accepts, Misses, ReceptionRules}
+use Rattle.model.proofs.Words.{state-same, those-same, dec-either, dec-both, dec-in}
 use Rattle.model.proofs.AgreeTicks.{Agree, agree, payloads, named}
 
 -- ---- one destination
@@ -148,6 +149,13 @@ module _ (p : Plan) where
               in-order p payload (rowIn p r .claims) (b .again) _ _ (rw e at (a .puts)) (b .puts);
         }
 
+    misses : Misses p g s n i payload → Misses p h s n i payload → Agree g h s (reception n i payload)
+    misses a b =
+        record {
+          answer = a .answers .answer ∙ ap (λ rows. received (NoRow (length rows))) (those-same (a .those) (b .those)) ∙ sym (b .answers .answer);
+          next = a .answers .stays ∙ sym (b .answers .stays);
+        }
+
     pub reception-agrees : ReceptionRules p g s n i payload → ReceptionRules p h s n i payload → Agree g h s (reception n i payload)
     reception-agrees a b = go (decLt n (p .nodes)) (decLt 8 (length payload)) (named p g h s shape n i)
       where
@@ -160,5 +168,5 @@ module _ (p : Plan) where
             → Agree g h s (reception n i payload)
         go (no d) w v = agree p g h s shape (a .refused (omega arith)) (b .refused (omega arith))
         go (yes l) (yes m) v = agree p g h s shape (a .long l m) (b .long l m)
-        go (yes l) (no m) (inr f) = agree p g h s shape (a .noRow l (omega arith) f) (b .noRow l (omega arith) f)
+        go (yes l) (no m) (inr f) = misses (a .noRow l (omega arith) f) (b .noRow l (omega arith) f)
         go (yes l) (no m) (inl (r, x)) = row l (omega arith) r x (decLt _ _)

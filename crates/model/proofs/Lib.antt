@@ -13,6 +13,7 @@ pub mod MeetsTx
 pub mod MeetsRx
 pub mod MeetsTick
 pub mod Lookup
+pub mod Smaller
 pub mod MeetsSending
 pub mod MeetsPuts
 pub mod MeetsReception

@@ -13,7 +13,7 @@ use Rattle.facts.specs.PlanCases.{listing}
 use Rattle.facts.proofs.PlanCases.{plan-cases-hold}
 use Rattle.model.specs.Opening.{mapped, begun, openAnswer}
 use Rattle.model.specs.Scheduling.{isIn, joined, scheduled}
-use Rattle.model.specs.Reception.{find, sentIf, putBy, put, restarted, accepted, foundAnswer, foundState, receivedAnswer, received}
+use Rattle.model.specs.Reception.{find, smaller, sentIf, putBy, put, restarted, accepted, foundAnswer, foundState, receivedAnswer, received}
 use Rattle.model.specs.Tick.{handled, txLowered, txTurn, txTurns, failedBy, failed, expired, rxLowered, rxTurn}
 use Rattle.model.specs.Tick.{rxTurns, reportOf, reported, tickedState, tickAnswer, ticked, tickReport}
 use Rattle.model.specs.Take.{oldestAnswer, oldestPayload, withoutOldest, takenAnswer, takenPayload, taken}
@@ -28,7 +28,7 @@ both : ListingAnswered × GapsAnswered
 unfolding pick digit setDigit digitOf bitAt setBit copied differs lowered formOf lengthOf eightAt txAt rxAt fieldsAt kindOf recordAt sizeOf
     recordsFrom recordsAt records widthOf withFailure claimsFrom awaited rowOf rowsFrom rowsOf allClaims txFrames txOf nodesIn orderIn mapped
     begun openAnswer isIn joined scheduled handled txLowered txTurn txTurns failedBy failed expired rxLowered rxTurn rxTurns reportOf reported
-    tickedState tickAnswer ticked tickReport oldestAnswer oldestPayload withoutOldest takenAnswer takenPayload taken find sentIf putBy put
+    tickedState tickAnswer ticked tickReport oldestAnswer oldestPayload withoutOldest takenAnswer takenPayload taken find smaller sentIf putBy put
     restarted accepted foundAnswer foundState receivedAnswer received answerOf nextOf answerFrom nextFrom openNext theModel replyOf worldAfter replies
 both = (rw is-good refl, rw is-good refl)
 

@@ -16,6 +16,7 @@ use Rattle.model.specs.ReceptionRules.{Becomes, Restarts, ReceptionRules
 use Rattle.model.proofs.Lawful.{Lawful}
 use Rattle.model.proofs.AgreeReceptions.{restart-shape}
 use Rattle.model.proofs.Lookup.{found, missed}
+use Rattle.model.proofs.Smaller.{many, those-smaller}
 use Rattle.model.proofs.MeetsPuts.{in-order}
 
 module _ (p : Plan) (lawful : Lawful p) where
@@ -50,7 +51,11 @@ module _ (p : Plan) (lawful : Lawful p) where
             let e = lt-ltb n (p .nodes) l in
             let f = le-leb (length payload) 8 m in
             let g = missed p lawful n i k in
-            record { answer = rw (e, f, g); stays = rw (e, f, g) };
+            record {
+              rows = _;
+              those = those-smaller p n i;
+              answers = record { answer = rw (e, f, g, many n i 0 (p .rows)); stays = rw (e, f, g) };
+            };
         short =
             λ l m r x k.
             let e = lt-ltb n (p .nodes) l in

@@ -41,7 +41,7 @@ module _ (p : Plan) (g : Running) (meets : Runs p g) (s : State) (k : Shape p s)
           → Left (reception n i payload) ⊎ ((r : ℕ) × Names p n i r × Accepts p g s n i payload r)
       go (no d) w v = inl (a .refused (omega arith) .stays)
       go (yes l) (yes m) v = inl (a .long l m .stays)
-      go (yes l) (no m) (inr f) = inl (a .noRow l (omega arith) f .stays)
+      go (yes l) (no m) (inr f) = inl (a .noRow l (omega arith) f .answers .stays)
       go (yes l) (no m) (inl (r, x)) = row l (omega arith) r x (decLt _ _)
 
   pub tick-outcome : (report : List ℕ) → TickOutcome p g s report

@@ -29,7 +29,7 @@ told =
     ∷ answered (ticked Done (2 ∷ []))
     ∷ answered (received Accepted)
     ∷ answered (taken Nothing [])
-    ∷ answered (received NoRow)
+    ∷ answered (received (NoRow 1))
     ∷ answered (received TooShort)
     ∷ []
 

@@ -1,5 +1,5 @@
 -- "Reception takes node, ID and payload."
-use Prim.Native.Nat.{ℕ, suc, _/_, _%_}
+use Prim.Native.Nat.{ℕ, suc, _+_, _/_, _%_}
 use mathlib.Core.Bool.{Bool}
 use mathlib.Core.List.{List, [], _∷_}
 use lib.Dec.{eqb, ltb, leb}
@@ -22,6 +22,11 @@ pub data Found : Type 0 where
 unfoldable pub find : ℕ → ℕ → ℕ → List Row → Found
 find n id r [] = nothing
 find n id r (x ∷ xs) = pick (eqb (x .frame .node) n) (pick (eqb (x .frame .id) id) (at r) (find n id (suc r) xs)) (find n id (suc r) xs)
+
+-- "how many of that node's rows have a smaller ID" (document 02, Ticket 4)
+unfoldable pub smaller : ℕ → ℕ → List Row → ℕ
+smaller n id [] = 0
+smaller n id (x ∷ xs) = pick (eqb (x .frame .node) n) (pick (ltb (x .frame .id) id) 1 0) 0 + smaller n id xs
 
 -- "At each destination the Tx frame is scheduled if flag 1 is set, or flag 2 is set and any destination bit differed from the kept one."
 unfoldable pub sentIf : Plan → ℕ → Bool → State → ℕ → State
@@ -49,9 +54,10 @@ restarted p s r = withLong (withRxTimer s r (rowIn p r .frame .reload)) r (rowIn
 unfoldable pub accepted : Plan → State → ℕ → List ℕ → State
 accepted p s r payload = put p (restarted p s r) payload (rowIn p r .claims)
 
-unfoldable pub foundAnswer : Plan → Found → List ℕ → Received
-foundAnswer p nothing payload = NoRow
-foundAnswer p (at r) payload = pick (ltb (length payload) (rowIn p r .frame .size)) TooShort Accepted
+-- "Answer 1 carries this number" (document 02, Ticket 4)
+unfoldable pub foundAnswer : Plan → ℕ → ℕ → Found → List ℕ → Received
+foundAnswer p n id nothing payload = NoRow (smaller n id (p .rows))
+foundAnswer p n id (at r) payload = pick (ltb (length payload) (rowIn p r .frame .size)) TooShort Accepted
 
 unfoldable pub foundState : Plan → State → Found → List ℕ → State
 foundState p s nothing payload = s
@@ -61,7 +67,7 @@ foundState p s (at r) payload = pick (ltb (length payload) (rowIn p r .frame .si
 unfoldable pub receivedAnswer : Plan → State → ℕ → ℕ → List ℕ → Received
 receivedAnswer p s n id payload =
     pick (ltb n (p .nodes))
-    (pick (leb (length payload) 8) (foundAnswer p (find n id 0 (p .rows)) payload) (Refused LongPayload))
+    (pick (leb (length payload) 8) (foundAnswer p n id (find n id 0 (p .rows)) payload) (Refused LongPayload))
     (Refused NoNode)
 
 unfoldable pub received : Plan → State → ℕ → ℕ → List ℕ → State

@@ -11,7 +11,7 @@ use Rattle.answers.specs.declared.Received.the-variants.{Accepted, NoRow, TooSh
 use Rattle.model.specs.Plan.{Plan, txIn, rowIn}
 use Rattle.model.specs.State.{State, keptOf, queueOn}
 use Rattle.model.specs.Calls.{reception, received, Running}
-use Rattle.model.specs.Words.{In, Names, Shape, Answers}
+use Rattle.model.specs.Words.{In, Those, Names, Smaller, Shape, Answers}
 
 -- "A copy puts source bit p + k at destination bit q + k for each k below s."
 pub record Copies (p : Plan) (payload : List ℕ) (c : Claim) (from size : ℕ) (s x : State) : Type 0 where
@@ -91,12 +91,18 @@ pub record Accepts (p : Plan) (g : Running) (s : State) (n id : ℕ) (payload : 
   pub restarts : Restarts p r s again
   pub puts : InOrder p payload (rowIn p r .claims) again (g .next s (reception n id payload))
 
+-- "A lookup that finds nothing should say how many of that node's rows have a smaller ID. Answer 1 carries this number" (document 02, Ticket 4)
+pub record Misses (p : Plan) (g : Running) (s : State) (n id : ℕ) (payload : List ℕ) : Type 0 where
+  pub rows : List ℕ
+  pub those : Those (Smaller p n id) rows
+  pub answers : Answers g s (reception n id payload) (received (NoRow (length rows)))
+
 pub record ReceptionRules (p : Plan) (g : Running) (s : State) (n id : ℕ) (payload : List ℕ) : Type 0 where
   -- 12, then 13: "a received payload is longer than 8 bytes"
   pub refused : p .nodes ≤ n → Answers g s (reception n id payload) (received (Refused NoNode))
   pub long : n < p .nodes → 8 < length payload → Answers g s (reception n id payload) (received (Refused LongPayload))
   -- "A frame with no matching row is not processed further: answer 1, nothing changes"
-  pub noRow : n < p .nodes → length payload ≤ 8 → ((r : ℕ) → Names p n id r → ⊥) → Answers g s (reception n id payload) (received NoRow)
+  pub noRow : n < p .nodes → length payload ≤ 8 → ((r : ℕ) → Names p n id r → ⊥) → Misses p g s n id payload
   -- "A payload shorter than the row's size: answer 2, nothing changes."
   pub short : n < p .nodes → length payload ≤ 8 → (r : ℕ) → Names p n id r → length payload < rowIn p r .frame .size
       → Answers g s (reception n id payload) (received TooShort)

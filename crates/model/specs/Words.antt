@@ -31,6 +31,12 @@ pub record Names (p : Plan) (n i r : ℕ) : Type 0 where
   pub node : rowIn p r .frame .node ≡ n
   pub id : rowIn p r .frame .id ≡ i
 
+-- Rx frame r is one of the plan's frames of node n, and has a smaller ID
+pub record Smaller (p : Plan) (n i r : ℕ) : Type 0 where
+  pub exists : r < length (p .rows)
+  pub node : rowIn p r .frame .node ≡ n
+  pub id : rowIn p r .frame .id < i
+
 -- a payload: eight bytes
 pub record Payload (xs : List ℕ) : Type 0 where
   pub eight : length xs ≡ 8

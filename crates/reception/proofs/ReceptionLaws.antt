@@ -1,6 +1,6 @@
 -- What a reception changes and what it leaves: nothing where it is not accepted; and whatever its answer, the length, the mark and the header,
 -- the plan, and what is read from the tables, so long as the area holds bytes.
-use mathlib.Core.Path.{_≡_, refl, sym, _∙_}
+use mathlib.Core.Path.{_≡_, refl, sym, ap, _∙_}
 use mathlib.Core.Bool.{Bool, true, false}
 use mathlib.Core.List.{List}
 use Prim.Native.Nat.{ℕ, _≤_, _<_}
@@ -9,6 +9,7 @@ use lib.Dec.{leb, ltb}
 use lib.ListN.{length}
 use borrow.Author.Tests.{le-ltb, ltb-true, ltb-false, leb-true}
 use Rattle.base.specs.Pick.{pick}
+use Rattle.base.proofs.Picks.{cases}
 use Rattle.base.specs.Numbers.{byteAt}
 use Rattle.bits.proofs.PayloadLaws.{Bytes}
 use Rattle.records.specs.declared.record.RxNumber.{RxNumber}
@@ -66,7 +67,7 @@ module _ (a : List ℕ) (n id : ℕ) (payload : List ℕ) where
       refuse why = other (Refused why) (λ e. let z : _≡_ {A = ℕ} 0 1 = cc in omega arith)
 
       go : marked a ≡ true → n < nodeCount a → length payload ≤ 8 → (f : Found) → lookedUp a n id ≡ f → P (foundAnswer a f payload) (foundArea a f payload)
-      go o k s Nothing e = unfold foundAnswer foundArea in other NoRow (λ w. let z : _≡_ {A = ℕ} 0 1 = cc in omega arith)
+      go o k s (Nothing place) e = unfold foundAnswer foundArea in other (NoRow place) (λ w. let z : _≡_ {A = ℕ} 0 1 = cc in omega arith)
       go o k s (At r) e = unfold foundAnswer foundArea in
           pairs P (ltb (length payload) (rxFrame a (r .0) .size))
           (λ t. other TooShort (λ w. let z : _≡_ {A = ℕ} 0 1 = cc in omega arith))
@@ -82,6 +83,29 @@ module _ (a : List ℕ) (n id : ℕ) (payload : List ℕ) where
   accepts r f =
       let t = le-ltb (length payload) (rxFrame a (r .0) .size) (f .whole) in
       goes-on a n id payload (f .opened) (f .known) (At r) Accepted (acceptedArea a (r .0) payload) (f .short) (sym (f .found)) (rw t) (rw t)
+
+  -- answer 1 is what the lookup says that finds nothing
+  abbrev pub Missed : ℕ → Type 0
+  Missed place = (n < nodeCount a) × (lookedUp a n id ≡ Nothing place)
+
+  pub missed : (place : ℕ) → receivedAnswer a n id payload ≡ NoRow place → Missed place
+  unfolding receivedAnswer
+  missed place =
+      cases (λ x. x ≡ NoRow place → Missed place) (marked a) _ _
+      (λ o. cases (λ x. x ≡ NoRow place → Missed place) (ltb n (nodeCount a)) _ _
+      (λ k. cases (λ x. x ≡ NoRow place → Missed place) (leb (length payload) 8) _ _
+      (λ s. go (ltb-true n (nodeCount a) k) (lookedUp a n id) refl)
+      (λ s e. no cc))
+      (λ k e. no cc))
+      (λ o e. no cc)
+    where
+      no : _≡_ {A = ℕ} 0 1 → Missed place
+      no z = absurd (omega arith)
+
+      go : n < nodeCount a → (f : Found) → lookedUp a n id ≡ f → foundAnswer a f payload ≡ NoRow place → Missed place
+      go k (Nothing q) e = unfold foundAnswer in λ w. let same : q ≡ place = cc in (k, e ∙ ap Nothing same)
+      go k (At r) e = unfold foundAnswer in
+          cases (λ x. x ≡ NoRow place → Missed place) (ltb (length payload) (rxFrame a (r .0) .size)) _ _ (λ t w. no cc) (λ t w. no cc)
 
 -- ---- what is kept
 

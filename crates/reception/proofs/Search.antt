@@ -1,6 +1,6 @@
 -- The cases of the search, that looks to spare change nothing, that a found number is one of the rows', and what the number says that a node's
 -- search answers.
-use mathlib.Core.Path.{_≡_, refl, sym, _∙_}
+use mathlib.Core.Path.{_≡_, refl, sym, ap, _∙_}
 use mathlib.Core.Logic.{⊎-elim}
 use mathlib.Core.List.{List}
 use Prim.Native.Nat.{ℕ, zero, suc, _+_, _-_, _/_, _<_, _≤_, zero-le}
@@ -15,123 +15,141 @@ use Rattle.area.specs.Layout.{rowBound, firstRow, rowCount, keyAt}
 use Rattle.records.specs.declared.record.RxNumber.{RxNumber}
 use Rattle.reception.specs.declared.lookup.Found.{Found}
 use Rattle.reception.specs.declared.lookup.Found.the-variants.{At, Nothing}
-use Rattle.reception.specs.Lookup.{lookOnce, lookIn, lookedUp, rowNumber}
+use Rattle.reception.specs.Lookup.{lookOnce, lookIn, lookedUp, beyond, rowNumber}
 
-module _ (half : ℕ → ℕ → Found) (a : List ℕ) (n first key : ℕ) where
-  once-none : n ≡ 0 → lookOnce half a n first key ≡ Nothing
+-- the row that is looked at: the middle of those that remain
+abbrev pub middle : ℕ → ℕ → ℕ → ℕ
+middle first place n = first + place + n / 2
+
+module _ (half : ℕ → ℕ → Found) (a : List ℕ) (first place n key : ℕ) where
+  abbrev m : ℕ
+  m = middle first place n
+
+  once-none : n ≡ 0 → lookOnce half a first place n key ≡ Nothing place
   unfolding lookOnce pick
   once-none e = rw (eq-eqb n 0 e)
 
   module _ (some : n ≡ 0 → ⊥) where
-    once-hit : keyAt a (first + n / 2) ≡ key → lookOnce half a n first key ≡ At (record { 0 = first + n / 2 })
+    once-hit : keyAt a m ≡ key → lookOnce half a first place n key ≡ At (record { 0 = m })
     unfolding lookOnce pick
-    once-hit e = rw (ne-eqb n 0 some, eq-eqb (keyAt a (first + n / 2)) key e)
+    once-hit e = rw (ne-eqb n 0 some, eq-eqb (keyAt a m) key e)
 
-    once-low : key < keyAt a (first + n / 2) → lookOnce half a n first key ≡ half (n / 2) first
+    once-low : key < keyAt a m → lookOnce half a first place n key ≡ half place (n / 2)
     unfolding lookOnce pick
     once-low l =
-        let other : keyAt a (first + n / 2) ≡ key → ⊥ = λ e. omega arith in
-        rw (ne-eqb n 0 some, ne-eqb (keyAt a (first + n / 2)) key other, lt-ltb key (keyAt a (first + n / 2)) l)
+        let other : keyAt a m ≡ key → ⊥ = λ e. omega arith in
+        rw (ne-eqb n 0 some, ne-eqb (keyAt a m) key other, lt-ltb key (keyAt a m) l)
 
-    once-high : keyAt a (first + n / 2) < key → lookOnce half a n first key ≡ half (n - n / 2 - 1) (first + n / 2 + 1)
+    once-high : keyAt a m < key → lookOnce half a first place n key ≡ half (place + n / 2 + 1) (n - n / 2 - 1)
     unfolding lookOnce pick
     once-high l =
-        let other : keyAt a (first + n / 2) ≡ key → ⊥ = λ e. omega arith in
-        let least : keyAt a (first + n / 2) ≤ key = omega arith in
-        rw (ne-eqb n 0 some, ne-eqb (keyAt a (first + n / 2)) key other, le-ltb key (keyAt a (first + n / 2)) least)
+        let other : keyAt a m ≡ key → ⊥ = λ e. omega arith in
+        let least : keyAt a m ≤ key = omega arith in
+        rw (ne-eqb n 0 some, ne-eqb (keyAt a m) key other, le-ltb key (keyAt a m) least)
 
-module _ (f g : ℕ → ℕ → Found) (a : List ℕ) (n first key : ℕ) where
+module _ (f g : ℕ → ℕ → Found) (a : List ℕ) (first place n key : ℕ) where
   pub once-alike :
-      f (n / 2) first ≡ g (n / 2) first → f (n - n / 2 - 1) (first + n / 2 + 1) ≡ g (n - n / 2 - 1) (first + n / 2 + 1)
-      → lookOnce f a n first key ≡ lookOnce g a n first key
+      f place (n / 2) ≡ g place (n / 2) → f (place + n / 2 + 1) (n - n / 2 - 1) ≡ g (place + n / 2 + 1) (n - n / 2 - 1)
+      → lookOnce f a first place n key ≡ lookOnce g a first place n key
   unfolding lookOnce
   once-alike p q = rw (p, q)
 
 -- looks to spare change nothing
-enough : (f g : ℕ) (a : List ℕ) (n first key : ℕ) → n < f → n < g → lookIn f a n first key ≡ lookIn g a n first key
+enough : (f g : ℕ) (a : List ℕ) (first place n key : ℕ) → n < f → n < g → lookIn f a first place n key ≡ lookIn g a first place n key
 unfolding lookIn
-enough zero g a n first key h k = absurd (omega arith)
-enough (suc f) zero a n first key h k = absurd (omega arith)
-enough (suc f) (suc g) a n first key h k =
+enough zero g a first place n key h k = absurd (omega arith)
+enough (suc f) zero a first place n key h k = absurd (omega arith)
+enough (suc f) (suc g) a first place n key h k =
     ⊎-elim
-    (λ (e : 0 ≡ n). once-none _ a n first key (sym e) ∙ sym (once-none _ a n first key (sym e)))
+    (λ (e : 0 ≡ n). once-none _ a first place n key (sym e) ∙ sym (once-none _ a first place n key (sym e)))
     (λ (l : 0 < n).
-    once-alike _ _ a n first key
-    (enough f g a (n / 2) first key (omega arith) (omega arith))
-    (enough f g a (n - n / 2 - 1) (first + n / 2 + 1) key (omega arith) (omega arith)))
+    once-alike _ _ a first place n key
+    (enough f g a first place (n / 2) key (omega arith) (omega arith))
+    (enough f g a first (place + n / 2 + 1) (n - n / 2 - 1) key (omega arith) (omega arith)))
     (eq-or-lt-of-le zero-le)
 
--- a found number is at least the first row's, and below the number after the last row's
-abbrev pub Among : ℕ → ℕ → Found → Type 0
-Among first n r = (x : RxNumber) → r ≡ At x → (first ≤ x .0) × (x .0 < first + n)
+-- a row that is found is one of those that remained, and a place counts those left behind and no more than all of them
+Among : ℕ → ℕ → ℕ → Found → Type 0
+Among first place n (At x) = (first + place ≤ x .0) × (x .0 < first + place + n)
+Among first place n (Nothing left) = left ≤ place + n
 
-never : (first n : ℕ) → Among first n Nothing
-never first n x e = let z : _≡_ {A = ℕ} 0 1 = cc in absurd (omega arith)
+wider :
+    (first place n left m : ℕ) (r : Found) → place ≤ left → left + m ≤ place + n → Among first left m r → Among first place n r
+unfolding Among
+wider first place n left m (At x) l h among = (omega (arith, among .0), omega (arith, among .1))
+wider first place n left m (Nothing p) l h among = omega (arith, among)
 
-wider : (first n from m : ℕ) {r : Found} → first ≤ from → from + m ≤ first + n → Among from m r → Among first n r
-wider first n from m l h among x e = omega (arith, among x e)
-
-pub found-among : (looks : ℕ) (a : List ℕ) (n first key : ℕ) → Among first n (lookIn looks a n first key)
-unfolding lookIn lookOnce
-found-among zero a n first key = never first n
-found-among (suc looks) a n first key =
-    by-eqb (Among first n) n 0 _ _ (λ e. never first n) (λ d.
+among : (looks : ℕ) (a : List ℕ) (first place n key : ℕ) → Among first place n (lookIn looks a first place n key)
+unfolding lookIn lookOnce Among
+among zero a first place n key = omega arith
+among (suc looks) a first place n key =
+    by-eqb (Among first place n) n 0 _ _ (λ e. omega arith) (λ d.
     let p = pos-of-ne-zero d in
-    by-eqb (Among first n) (keyAt a (first + n / 2)) key _ _
-    (λ e x w. let v : first + n / 2 ≡ x .0 = cc in omega arith)
-    (λ w. both (Among first n) (ltb key (keyAt a (first + n / 2))) _ _
-    (wider first n first (n / 2) (omega arith) (omega arith) (found-among looks a (n / 2) first key))
-    (wider first n (first + n / 2 + 1) (n - n / 2 - 1) (omega arith) (omega arith)
-    (found-among looks a (n - n / 2 - 1) (first + n / 2 + 1) key))))
+    by-eqb (Among first place n) (keyAt a (first + place + n / 2)) key _ _
+    (λ e. (omega arith, omega arith))
+    (λ w. both (Among first place n) (ltb key (keyAt a (first + place + n / 2))) _ _
+    (wider first place n place (n / 2) (lookIn looks a first place (n / 2) key) (omega arith) (omega arith) (among looks a first place (n / 2) key))
+    (wider first place n (place + n / 2 + 1) (n - n / 2 - 1) (lookIn looks a first (place + n / 2 + 1) (n - n / 2 - 1) key) (omega arith) (omega arith)
+    (among looks a first (place + n / 2 + 1) (n - n / 2 - 1) key))))
 
-module _ (a : List ℕ) (n first key : ℕ) where
-  pub none : n ≡ 0 → lookIn (n + 1) a n first key ≡ Nothing
+pub found-among :
+    (looks : ℕ) (a : List ℕ) (first place n key : ℕ) (x : RxNumber) → lookIn looks a first place n key ≡ At x
+    → (first + place ≤ x .0) × (x .0 < first + place + n)
+unfolding Among
+found-among looks a first place n key x e = rw e at (among looks a first place n key)
+
+module _ (a : List ℕ) (first place n key : ℕ) where
+  pub none : n ≡ 0 → lookIn (n + 1) a first place n key ≡ Nothing place
   unfolding lookIn
-  none e = rw add-one (once-none _ a n first key e)
+  none e = rw add-one (once-none _ a first place n key e)
 
   module _ (some : n ≡ 0 → ⊥) where
-    pub hit : keyAt a (first + n / 2) ≡ key → lookIn (n + 1) a n first key ≡ At (record { 0 = first + n / 2 })
+    pub hit : keyAt a (middle first place n) ≡ key → lookIn (n + 1) a first place n key ≡ At (record { 0 = middle first place n })
     unfolding lookIn
-    hit e = rw add-one (once-hit _ a n first key some e)
+    hit e = rw add-one (once-hit _ a first place n key some e)
 
-    pub low : key < keyAt a (first + n / 2) → lookIn (n + 1) a n first key ≡ lookIn (n / 2 + 1) a (n / 2) first key
+    pub low : key < keyAt a (middle first place n) → lookIn (n + 1) a first place n key ≡ lookIn (n / 2 + 1) a first place (n / 2) key
     unfolding lookIn
     low l =
         let p = pos-of-ne-zero some in
-        rw (add-one n) (once-low _ a n first key some l ∙ enough n (n / 2 + 1) a (n / 2) first key (omega arith) (omega arith))
+        rw (add-one n) (once-low _ a first place n key some l ∙ enough n (n / 2 + 1) a first place (n / 2) key (omega arith) (omega arith))
 
     pub high :
-        keyAt a (first + n / 2) < key
-        → lookIn (n + 1) a n first key ≡ lookIn (n - n / 2 - 1 + 1) a (n - n / 2 - 1) (first + n / 2 + 1) key
+        keyAt a (middle first place n) < key → lookIn (n + 1) a first place n key ≡ lookIn (n - n / 2 - 1 + 1) a first (place + n / 2 + 1) (n - n / 2 - 1) key
     unfolding lookIn
     high l =
         let p = pos-of-ne-zero some in
         rw (add-one n)
-        (once-high _ a n first key some l
-        ∙ enough n (n - n / 2 - 1 + 1) a (n - n / 2 - 1) (first + n / 2 + 1) key (omega arith) (omega arith))
+        (once-high _ a first place n key some l
+        ∙ enough n (n - n / 2 - 1 + 1) a first (place + n / 2 + 1) (n - n / 2 - 1) key (omega arith) (omega arith))
 
 -- ---- the search of a node's rows
 
 pub found-small : (a : List ℕ) (n id : ℕ) (x : RxNumber) → lookedUp a n id ≡ At x → x .0 < rowBound
 unfolding lookedUp
-found-small a n id x e = omega (arith, found-among (rowCount a n + 1) a (rowCount a n) (firstRow a n) id x e)
+found-small a n id x e = omega (arith, found-among (rowCount a n + 1) a (firstRow a n) 0 (rowCount a n) id x e)
 
--- what the number says that it answers: below the bound it is the row's that was found, and else nothing was
-number-found : (f : Found) (r : ℕ) → r ≡ rowNumber f → r < rowBound → At (record { 0 = r }) ≡ f
+pub place-small : (a : List ℕ) (n id place : ℕ) → lookedUp a n id ≡ Nothing place → place ≤ rowCount a n
+unfolding lookedUp Among
+place-small a n id place e =
+    let most : place ≤ 0 + rowCount a n = rw e at (among (rowCount a n + 1) a (firstRow a n) 0 (rowCount a n) id) in omega arith
+
+-- what the number says that it answers: of 32 bits it is the row's that was found, and else it says the place
+number-found : (f : Found) (r : ℕ) → r ≡ rowNumber f → r < beyond → At (record { 0 = r }) ≡ f
 unfolding rowNumber
 number-found (At x) r e l = λ i. At (record { 0 = e i })
-number-found Nothing r e l = absurd (omega arith)
+number-found (Nothing place) r e l = absurd (omega arith)
 
-number-lost : (f : Found) (r : ℕ) → r ≡ rowNumber f → rowBound ≤ r → ((x : RxNumber) → f ≡ At x → x .0 < rowBound) → Nothing ≡ f
+number-lost : (f : Found) (r : ℕ) → r ≡ rowNumber f → beyond ≤ r → ((x : RxNumber) → f ≡ At x → x .0 < rowBound) → Nothing (r / beyond / 2) ≡ f
 unfolding rowNumber
 number-lost (At x) r e l h = let b = h x refl in absurd (omega arith)
-number-lost Nothing r e l h = refl
+number-lost (Nothing place) r e l h = ap Nothing (omega arith)
 
 module _ (a : List ℕ) (n id count first r : ℕ) (c : count ≡ rowCount a n) (f : first ≡ firstRow a n) where
-  module _ (e : r ≡ rowNumber (lookIn (count + 1) a count first id)) where
+  module _ (e : r ≡ rowNumber (lookIn (count + 1) a first (first - first) count id)) where
     number : r ≡ rowNumber (lookedUp a n id)
     unfolding lookedUp
-    number = rw (← c, ← f) e
+    number = let left : first - first ≡ 0 = omega arith in rw (← c, ← f) (rw left at e)
 
     abbrev Says : Found → Type 0
     Says f = (f ≡ lookedUp a n id) × ((x : RxNumber) → f ≡ At x → x .0 < rowBound)
@@ -139,8 +157,8 @@ module _ (a : List ℕ) (n id count first r : ℕ) (c : count ≡ rowCount a n) 
     says : (f : Found) → f ≡ lookedUp a n id → Says f
     says f w = (w, λ x v. found-small a n id x (sym w ∙ v))
 
-    pub looked-found : r < rowBound → Says (At (record { 0 = r }))
+    pub looked-found : r < beyond → Says (At (record { 0 = r }))
     looked-found l = says _ (number-found (lookedUp a n id) r number l)
 
-    pub looked-lost : rowBound ≤ r → Says Nothing
+    pub looked-lost : beyond ≤ r → Says (Nothing (r / beyond / 2))
     looked-lost l = says _ (number-lost (lookedUp a n id) r number l (found-small a n id))

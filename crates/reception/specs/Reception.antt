@@ -25,13 +25,13 @@ unfoldable pub acceptedArea : List ℕ → ℕ → List ℕ → List ℕ
 acceptedArea a r payload = allDone (order a) (accepted r payload) (claims a r) (restarted a r)
 
 -- "A frame with no matching row is not processed further: answer 1, nothing changes. .. A payload shorter than the row's size: answer 2,
--- nothing changes. Otherwise it is accepted, answer 0"
+-- nothing changes. Otherwise it is accepted, answer 0"; "Answer 1 carries this number" (document 02, Ticket 4)
 unfoldable pub foundAnswer : List ℕ → Found → List ℕ → Received
-foundAnswer a Nothing payload = NoRow
+foundAnswer a (Nothing place) payload = NoRow place
 foundAnswer a (At r) payload = pick (ltb (length payload) (rxFrame a (r .0) .size)) TooShort Accepted
 
 unfoldable pub foundArea : List ℕ → Found → List ℕ → List ℕ
-foundArea a Nothing payload = a
+foundArea a (Nothing place) payload = a
 foundArea a (At r) payload = pick (ltb (length payload) (rxFrame a (r .0) .size)) a (acceptedArea a (r .0) payload)
 
 -- "For calls: 11, then 12 .., then 13"

@@ -1,51 +1,70 @@
 // The search of a node's rows.
-use area::layout::ROW_BOUND;
 use area::rows::first_row;
 use area::rows::key_at;
 use area::rows::row_count;
 use records::record::RxNumber;
 ghost use mathlib.Core.Path.{_≡_};
-ghost use Prim.Native.Nat.{_+_, _≤_, _<_};
+ghost use Prim.Native.Nat.{_+_, _-_, _≤_, _<_};
 ghost use Rattle.area.specs.Layout.{rowBound, LongEnough};
 ghost use Rattle.records.specs.declared.record.RxNumber.{RxNumber};
 ghost use Rattle.reception.specs.declared.lookup.Found.the-variants.{At};
-ghost use Rattle.reception.specs.Lookup.{lookIn, lookedUp, rowNumber};
+ghost use Rattle.reception.specs.Lookup.{lookIn, lookedUp, rowNumber, placeIn};
+
+// `look` answers a row's number as it is, and for a place an odd multiple of this, which no row reaches. The compiler sees which of the two it is, and
+// tests nothing.
+const BEYOND: usize = 4294967296;
 
 pub enum Found {
     At(RxNumber),
-    Nothing,
+    // no row has the ID; `place` of the node's rows have a smaller one
+    Nothing { place: usize },
 }
 
-// The row of a node that has an ID, among that node's rows only.
+impl Found {
+    // How many of the node's rows have a smaller ID, where none has the ID itself.
+    pub fn place(self) -> usize
+        ensures { λ r. ⌜ r ≡ placeIn self ⌝ }
+    {
+        match self {
+            Found::At(_) => 0,
+            Found::Nothing { place } => place,
+        }
+    }
+}
+
+// The row of a node that has an ID, among that node's rows only; or the place where such a row would belong.
 pub fn look_up(area: &[u8], node: usize, id: u32) -> Found
     requires { ⌜ (node < 16) × LongEnough (now area) ⌝ }
     ensures { λ r. ⌜ (r ≡ lookedUp (now (area .entry)) node id) × ((x : RxNumber) → r ≡ At x → x .0 < rowBound) ⌝ }
 {
     let n = row_count(area, node);
     let first = first_row(area, node);
-    let r = look(&area, n, first, id);
-    if r < ROW_BOUND {
+    let r = look(&area, first, first, n, id);
+    if r < BEYOND {
         return Found::At(RxNumber(r));
     }
-    Found::Nothing
+    Found::Nothing {
+        place: r / BEYOND / 2,
+    }
 }
 
-// The middle of the `n` rows from row `first` on, and then the half that remains. It hands on a reference to the lent area and answers a plain
-// number, since the compiler makes a loop of such a recursion.
-fn look(area: &&[u8], n: usize, first: usize, key: u32) -> usize
-    requires { ⌜ (first + n ≤ rowBound) × LongEnough (now (now area)) ⌝ }
-    ensures { λ r. ⌜ r ≡ rowNumber (lookIn (n + 1) (now (now (area .entry))) n first key) ⌝ }
+// Of a node's rows, which begin at row `first`, the `n` from row `next` on remain: the middle of these, and then the half that remains. The rows that are
+// left behind have a smaller ID. It hands on a reference to the lent area and answers a plain number: of such a recursion the compiler makes a loop.
+fn look(area: &&[u8], first: usize, next: usize, n: usize, key: u32) -> usize
+    requires { ⌜ (first ≤ next) × (next + n ≤ rowBound) × LongEnough (now (now area)) ⌝ }
+    ensures { λ r. ⌜ r ≡ rowNumber (lookIn (n + 1) (now (now (area .entry))) first (next - first) n key) ⌝ }
 {
     if n == 0 {
-        return ROW_BOUND;
+        return (2 * (next - first) + 1) * BEYOND;
     }
-    let m = first + n / 2;
+    let m = next + n / 2;
     let k = key_at(*area, m) as u32;
     if key < k {
-        return look(area, n / 2, first, key);
+        return look(area, first, next, n / 2, key);
     }
     if k < key {
-        return look(area, n - n / 2 - 1, m + 1, key);
+        return look(area, first, m + 1, n - n / 2 - 1, key);
     }
-    m
+    // m as it is: the compiler sees that it is below
+    m % BEYOND
 }

@@ -24,7 +24,7 @@ ghost use Rattle.area.specs.Layout.{lastPlace, rowBound, LongEnough, rxRecordPl
 ghost use Rattle.reception.specs.declared.lookup.Found.the-variants.{At};
 ghost use Rattle.reception.specs.Reception.{restarted, acceptedArea, foundAnswer, foundArea, receivedAnswer, receivedArea};
 
-// A frame that a node received. One with no matching row is not processed further.
+// A frame that a node received. One with no matching row is not processed further: the answer says where such a row would belong.
 pub fn receive(area: &mut [u8], node: usize, id: u32, payload: &[u8]) -> Received
     ensures answer { λ r. ⌜ r ≡ receivedAnswer (now (area .entry)) node id (now (payload .entry)) ⌝ }
     ensures bytes { λ r. ⌜ now (area .exit) ≡ receivedArea (now (area .entry)) node id (now (payload .entry)) ⌝ }
@@ -40,8 +40,11 @@ pub fn receive(area: &mut [u8], node: usize, id: u32, payload: &[u8]) -> Receive
     if 8 < payload.len() {
         return Received::Refused(Refusal::LongPayload);
     }
-    let Found::At(r) = look_up(area, node, id) else {
-        return Received::NoRow;
+    let found = look_up(area, node, id);
+    let Found::At(r) = found else {
+        return Received::NoRow {
+            place: found.place(),
+        };
     };
     deliver(area, r, payload)
 }

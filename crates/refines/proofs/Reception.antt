@@ -1,5 +1,5 @@
 -- A reception on an area is the model's reception: its answer and the state that it leaves.
-use mathlib.Core.Path.{_≡_, refl, ap, _∙_}
+use mathlib.Core.Path.{_≡_, refl, sym, ap, _∙_}
 use mathlib.Core.List.{List}
 use Prim.Native.Nat.{ℕ, _<_}
 use native.Mathlib.Omega.{arith}
@@ -12,6 +12,7 @@ use Rattle.records.specs.Records.{records}
 use Rattle.plan.specs.Rows.{rowsOf, nodesIn}
 use Rattle.facts.proofs.FactsGood.{facts-good}
 use Rattle.area.specs.Layout.{nodeCount, rxFrame}
+use Rattle.answers.specs.declared.Received.the-variants.{NoRow}
 use Rattle.reception.specs.declared.lookup.Found.{Found}
 use Rattle.reception.specs.declared.lookup.Found.the-variants.{At, Nothing}
 use Rattle.reception.specs.Lookup.{lookedUp}
@@ -21,13 +22,15 @@ use Rattle.tables.specs.Statements.{Finds}
 use Rattle.tables.proofs.Lookup.{lookup-finds}
 use Rattle.model.specs.Plan.{said}
 use Rattle.model.specs.State.{State}
-use Rattle.model.specs.Reception.{find}
+use Rattle.model.specs.Reception.{find, smaller}
 use Rattle.model.specs.Reception as model
 use Rattle.model.specs.Calls as calls
 use Rattle.model.specs.Words.{Names}
 use Rattle.model.proofs.Lawful.{Lawful}
 use Rattle.model.proofs.Lookup.{found, missed}
+use Rattle.model.proofs.Smaller.{counts}
 use Rattle.history.specs.Calls.{answerIn, areaAfter}
+use Rattle.history.proofs.Strangers.{smaller-run}
 use Rattle.refines.proofs.Held.{Held}
 use Rattle.refines.proofs.Follows.{Follows, chosen}
 use Rattle.refines.proofs.Puts.{held-accepted}
@@ -39,14 +42,20 @@ module _ {plan a : List ℕ} {s : State} (lawful : Lawful (said plan)) (h : Held
     looks : Finds plan a n id
     looks = lookup-finds plan a _ _ _ (facts-good plan (h .good)) (h .reads) n id (omega (arith, h .good .counts .nodes))
 
-    by-lookup : (P : Found → model.Found → Type 0) → P Nothing model.nothing
+    -- the place in the area is the model's count
+    place-is : (place : ℕ) → lookedUp a n id ≡ Nothing place → place ≡ smaller n id (rowsOf plan)
+    place-is place e =
+        let x = looks .places place e in
+        sym (counts (said plan) n id (x .first) place (smaller-run plan n id place x))
+
+    by-lookup : (P : Found → model.Found → Type 0) → ((place : ℕ) → place ≡ smaller n id (rowsOf plan) → P (Nothing place) model.nothing)
         → ((r : ℕ) → r < length (rowsOf plan) → P (At (record { 0 = r })) (model.at r)) → P (lookedUp a n id) (find n id 0 (rowsOf plan))
     by-lookup P none some = go (lookedUp a n id) refl
       where
         go : (f : Found) → lookedUp a n id ≡ f → P (lookedUp a n id) (find n id 0 (rowsOf plan))
-        go Nothing e = rw (e, missed (said plan) lawful n id (λ r x. cannot r x e)) none
+        go (Nothing place) e = rw (e, missed (said plan) lawful n id (λ r x. cannot r x e)) (none place (place-is place e))
           where
-            cannot : (r : ℕ) → Names (said plan) n id r → lookedUp a n id ≡ Nothing → ⊥
+            cannot : (r : ℕ) → Names (said plan) n id r → lookedUp a n id ≡ Nothing place → ⊥
             cannot r x e =
                 let f = looks .finds r (record { exists = x .exists; node = x .node; id = x .id }) in
                 let z : _≡_ {A = ℕ} 0 1 = cc in
@@ -70,7 +79,8 @@ module _ {plan a : List ℕ} {s : State} (lawful : Lawful (said plan)) (h : Held
       picks _ _ _ (h .reads .header .mark)
       ∙ chosen (λ x y. x ≡ y) _ _ (known-is n)
       (λ k. chosen (λ x y. x ≡ y) (leb (length payload) 8) _ refl
-      (λ m. by-lookup n id (ltb-true n _ k) (λ f g. foundAnswer a f payload ≡ model.foundAnswer (said plan) g payload) refl
+      (λ m. by-lookup n id (ltb-true n _ k) (λ f g. foundAnswer a f payload ≡ model.foundAnswer (said plan) n id g payload)
+      (λ place e. ap NoRow e)
       (λ r l. chosen (λ x y. x ≡ y) _ _ (size-is r l payload) (λ e. refl) (λ e. refl)))
       (λ m. refl))
       (λ k. refl)
@@ -81,7 +91,7 @@ module _ {plan a : List ℕ} {s : State} (lawful : Lawful (said plan)) (h : Held
       rw (picks _ _ _ (h .reads .header .mark))
       (chosen (Held plan) _ _ (known-is n)
       (λ k. chosen (Held plan) (leb (length payload) 8) _ refl
-      (λ m. by-lookup n id (ltb-true n _ k) (λ f g. Held plan (foundArea a f payload) (model.foundState (said plan) s g payload)) h
+      (λ m. by-lookup n id (ltb-true n _ k) (λ f g. Held plan (foundArea a f payload) (model.foundState (said plan) s g payload)) (λ place e. h)
       (λ r l. chosen (Held plan) _ _ (size-is r l payload) (λ e. h) (λ e. held-accepted lawful h r l payload)))
       (λ m. h))
       (λ k. h))

@@ -1,17 +1,19 @@
--- The lookup in an area that holds a plan: it finds the plan's Rx frame of a node and an ID, and no other.
+-- The lookup in an area that holds a plan: it finds the plan's Rx frame of a node and an ID, and no other, or the place where such a one belongs.
 use mathlib.Core.Path.{_≡_, sym, _∙_}
 use mathlib.Core.List.{List}
 use Prim.Native.Nat.{ℕ, _+_, _-_, _≤_, _<_}
 use native.Mathlib.Omega.{arith}
+use native.Mathlib.Decide.{decLt}
 use lib.ListN.{length}
 use Rattle.plan.specs.Rows.{rowsOf}
 use Rattle.facts.specs.Good.{GoodPlan}
 use Rattle.facts.proofs.GoodFacts.{good-facts}
 use Rattle.area.specs.Layout.{keyAt, firstRow, rowCount}
 use Rattle.reception.specs.Lookup.{lookedUp}
-use Rattle.reception.proofs.LookupLaws.{Rising, found-only, nothing-if, found-exactly}
+use Rattle.reception.specs.declared.lookup.Found.the-variants.{Nothing}
+use Rattle.reception.proofs.LookupLaws.{Rising, Parts, found-only, nothing-if, found-exactly, nothing-parts}
 use Rattle.tables.specs.Reads.{rowAt, Reads}
-use Rattle.tables.specs.Statements.{Names, Finds, LookupFinds}
+use Rattle.tables.specs.Statements.{Names, Places, Finds, LookupFinds}
 use Rattle.tables.proofs.RowFacts.{ids-rise}
 
 module _ (plan a : List ℕ) (good : GoodPlan plan) (reads : Reads plan a) (m : ℕ) (h : m < 16) where
@@ -44,15 +46,39 @@ module _ (plan a : List ℕ) (good : GoodPlan plan) (reads : Reads plan a) (m : 
     named : (r : ℕ) → first ≤ r → r < first + count → keyAt a r ≡ id → Names plan m id r
     named r b l e = record { exists = exists r l; node = one-node r b l; id = sym (key-is r l) ∙ e }
 
+    -- the place parts the node's rows: the smaller ones are those before it
+    places : (place : ℕ) → lookedUp a m id ≡ Nothing place → Places plan m id place
+    unfolding lookedUp
+    places place e =
+        record {
+          first = first;
+          exactly = λ r. (
+            (λ x.
+                let b = reads .node m h .all r (x .exists) (x .node) in
+                (b .0, before r (b .1) (rw (← (key-is r (b .1))) at (x .id)) (decLt r (first + place)))),
+            (λ (b, l).
+                let there : r < first + count = omega (arith, parts .most) in
+                record { exists = exists r there; node = one-node r b there; id = rw (key-is r there) at (parts .smaller r (omega arith) l) }),
+          );
+        }
+      where
+        parts : Parts a first 0 count id place
+        parts = nothing-parts a first count id keys-rise place e
+
+        before : (r : ℕ) → r < first + count → keyAt a r < id → Dec (r < first + place) → r < first + place
+        before r there l (yes k) = k
+        before r there l (no d) = absurd (omega (arith, parts .greater r (omega arith) (omega arith)))
+
     found : Finds plan a m id
     unfolding lookedUp
     found =
         record {
-          found = λ x e. let f = found-only a count first id x e in named (x .0) (f .0) (f .1) (f .2);
+          found = λ x e. let f = found-only a first count id x e in named (x .0) (f .0) (f .1) (f .2);
           finds = λ r n.
               let place = reads .node m h .all r (n .exists) (n .node) in
-              found-exactly a count first id keys-rise r (place .0) (place .1) .0 (key-is r (place .1) ∙ n .id);
-          nothing = λ none. nothing-if a count first id (λ r b l e. none r (named r b l e));
+              found-exactly a first count id keys-rise r (place .0) (place .1) .0 (key-is r (place .1) ∙ n .id);
+          nothing = λ none. nothing-if a first count id (λ r b l e. none r (named r b l e));
+          places = places;
         }
 
 pub lookup-finds : LookupFinds

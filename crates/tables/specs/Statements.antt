@@ -1,7 +1,8 @@
 -- What is proved of an opened area, and what every later call leaves.
 use mathlib.Core.Path.{_≡_}
 use mathlib.Core.List.{List}
-use Prim.Native.Nat.{ℕ, _<_}
+use mathlib.Core.Logic.{_↔_}
+use Prim.Native.Nat.{ℕ, _+_, _≤_, _<_}
 use lib.ListN.{length}
 use Rattle.records.specs.declared.record.RxNumber.{RxNumber}
 use Rattle.plan.specs.declared.verdict.Verdict.the-variants.{Good}
@@ -24,11 +25,24 @@ pub record Names (plan : List ℕ) (n i r : ℕ) : Type 0 where
   pub node : rowAt plan r .frame .node ≡ n
   pub id : rowAt plan r .frame .id ≡ i
 
--- "Lookup searches that node's rows only": it finds the plan's Rx frame of that node and ID, no other node's, and nothing where there is none
+-- a row of a node with a smaller ID
+pub record Smaller (plan : List ℕ) (n i r : ℕ) : Type 0 where
+  pub exists : r < length (rowsOf plan)
+  pub node : rowAt plan r .frame .node ≡ n
+  pub id : rowAt plan r .frame .id < i
+
+-- "how many of that node's rows have a smaller ID" (document 02, Ticket 4): they are the rows from row `first` on, and as many as the place says
+pub record Places (plan : List ℕ) (n i place : ℕ) : Type 0 where
+  pub first : ℕ
+  pub exactly : (r : ℕ) → Smaller plan n i r ↔ ((first ≤ r) × (r < first + place))
+
+-- "Lookup searches that node's rows only": it finds the plan's Rx frame of that node and ID, no other node's; where there is none it finds nothing,
+-- and says the place
 pub record Finds (plan a : List ℕ) (n id : ℕ) : Type 0 where
   pub found : (x : RxNumber) → lookedUp a n id ≡ At x → Names plan n id (x .0)
   pub finds : (r : ℕ) → Names plan n id r → lookedUp a n id ≡ At (record { 0 = r })
-  pub nothing : ((r : ℕ) → Names plan n id r → ⊥) → lookedUp a n id ≡ Nothing
+  pub nothing : ((r : ℕ) → Names plan n id r → ⊥) → (place : ℕ) × (lookedUp a n id ≡ Nothing place)
+  pub places : (place : ℕ) → lookedUp a n id ≡ Nothing place → Places plan n id place
 
 abbrev pub LookupFinds : Type 0
 LookupFinds =

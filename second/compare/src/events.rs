@@ -1,5 +1,6 @@
 //! Event streams for a plan, biased to hit its rows and its timers.
 
+use crate::good;
 use crate::rng::Rng;
 use crate::spec::Plan;
 
@@ -132,7 +133,7 @@ impl<'p> Events<'p> {
             id = rx.id;
             length = rx.size;
         }
-        match rng.below(9) {
+        match rng.below(12) {
             0..=2 => node = rng.below(self.plan.nodes + 1) as u8,
             3 => node = rng.pick(&[self.plan.nodes as u8, 16, 128, 255]),
             4 => id = id.wrapping_add(1),
@@ -142,9 +143,19 @@ impl<'p> Events<'p> {
                 let any = rng.number() as u16;
                 id = rng.pick(&[2048, 0xFFFF, any]);
             }
+            8..=10 => (node, id) = self.stranger(rng),
             _ => length = rng.pick(&[9, 10, 11, 12, 128, 255]),
         }
         self.reception(node, id, length, rng.payload());
+    }
+
+    /// A node and an ID that none of its rows has, each run of such IDs as
+    /// often as the others.
+    fn stranger(&self, rng: &mut Rng) -> (u8, u16) {
+        let node = rng.below(self.plan.nodes) as u8;
+        let run = rng.pick(&good::unlisted(self.plan, node));
+        let ids = good::some_of(rng, run);
+        (node, rng.pick(&ids))
     }
 
     fn any_take(&mut self, rng: &mut Rng) {

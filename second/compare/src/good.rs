@@ -5,6 +5,9 @@ use std::collections::BTreeSet;
 use crate::rng::Rng;
 use crate::spec::{Destination, Plan, Rx, Signal, Tx};
 
+/// The node and the ID of each row.
+pub type Keys = BTreeSet<(u8, u16)>;
+
 /// How large a plan is to be.
 #[derive(Clone, Copy, Debug)]
 pub struct Measure {
@@ -105,8 +108,8 @@ fn tx_frame(rng: &mut Rng, nodes: usize) -> Tx {
 }
 
 /// Rising (node, ID) keys: IDs near each other, at the ends, or anywhere.
-fn keys(rng: &mut Rng, nodes: usize, count: usize) -> BTreeSet<(u8, u16)> {
-    let mut keys = BTreeSet::new();
+fn keys(rng: &mut Rng, nodes: usize, count: usize) -> Keys {
+    let mut keys = Keys::new();
     let base = rng.below(2048);
     let style = rng.below(4);
     while keys.len() < count {
@@ -156,22 +159,29 @@ pub fn signal(rng: &mut Rng, bits: usize) -> Signal {
     }
 }
 
-/// A good plan of the given measure. Destinations that find no free place are
-/// left out. Without nodes there are no frames.
-pub fn plan(rng: &mut Rng, measure: Measure) -> Plan {
+/// A good plan of the given measure. Without nodes there are no frames.
+pub fn plan(rng: &mut Rng, mut measure: Measure) -> Plan {
+    if measure.nodes == 0 {
+        measure.tx = 0;
+        measure.rx = 0;
+    }
+    let keys = keys(rng, measure.nodes, measure.rx);
+    plan_with_rows(rng, measure, keys)
+}
+
+/// A good plan with rows of these keys, otherwise of the given measure.
+/// Destinations that find no free place are left out.
+pub fn plan_with_rows(rng: &mut Rng, measure: Measure, keys: Keys) -> Plan {
     let mut plan = Plan {
         order: rng.below(2) as u8,
         nodes: measure.nodes,
         ..Plan::default()
     };
-    if measure.nodes == 0 {
-        return plan;
-    }
     plan.tx = (0..measure.tx)
         .map(|_| tx_frame(rng, measure.nodes))
         .collect();
     let mut owners = Owners::new(measure.tx);
-    for (node, id) in keys(rng, measure.nodes, measure.rx) {
+    for (node, id) in keys {
         let mut rx = rx_frame(rng, node, id);
         let signals = match rx.size {
             0 => 0,
@@ -252,6 +262,30 @@ pub fn rich_plan(rng: &mut Rng) -> Plan {
         }
         return plan;
     }
+}
+
+/// The IDs that no row of the node has, in runs from a lowest to a highest ID.
+/// Those above 2047 are a run of their own.
+pub fn unlisted(plan: &Plan, node: u8) -> Vec<(u16, u16)> {
+    let mut runs = Vec::new();
+    let mut lowest = 0;
+    for row in plan.rx.iter().filter(|rx| rx.node == node) {
+        if lowest < row.id {
+            runs.push((lowest, row.id - 1));
+        }
+        lowest = row.id + 1;
+    }
+    if lowest <= 2047 {
+        runs.push((lowest, 2047));
+    }
+    runs.push((2048, u16::MAX));
+    runs
+}
+
+/// Both ends of a run and an ID of it.
+pub fn some_of(rng: &mut Rng, (lowest, highest): (u16, u16)) -> [u16; 3] {
+    let any = rng.from_to(usize::from(lowest), usize::from(highest));
+    [lowest, any as u16, highest]
 }
 
 /// The numbers of the rows with an enabled indicator.

@@ -2,8 +2,8 @@
 //!
 //! `shapes` makes the inputs (from `good` plans and `events`, written by
 //! `spec`), `ask` puts them to the command, `tally` is the table of what they
-//! met and `observe` fills it, with `long_counters` for the long timeouts, and
-//! `run` puts these together.
+//! met and `observe` fills it, with `long_counters` for the long timeouts and
+//! `places` for the strangers, and `run` puts these together.
 
 pub mod args;
 pub mod ask;
@@ -11,6 +11,7 @@ pub mod events;
 pub mod good;
 mod long_counters;
 mod observe;
+mod places;
 pub mod rng;
 pub mod run;
 pub mod shapes;

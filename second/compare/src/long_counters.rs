@@ -65,7 +65,7 @@ impl LongCounters {
             match answer {
                 Ok(Answer::Accepted) if is_named => row.accept(tally),
                 Ok(Answer::Accepted) => row.pass_by("rx 0 of another row"),
-                Ok(Answer::NoMatchingRow) => row.pass_by("rx 1"),
+                Ok(Answer::NoMatchingRow { .. }) => row.pass_by("rx 1"),
                 Ok(Answer::TooShort) if is_named => row.pass_by("rx 2"),
                 Err(Refusal::NoSuchNode) => row.pass_by("rx refused 12"),
                 Err(Refusal::PayloadTooLong) if is_named => row.pass_by("rx refused 13"),

@@ -136,15 +136,13 @@ impl Tally {
         match answer {
             Err(refusal) => self.met(&format!("rx refused {}", refusal.number())),
             Ok(answer) => {
-                self.met(&format!("rx {}", answer as u8));
-                let mut rows = gateway.plan().rx_frames.iter();
+                self.met(&format!("rx {}", answer.number()));
                 match answer {
                     Answer::Accepted => self.accepted(gateway, node, id, &failure_bits, &waiting),
-                    Answer::NoMatchingRow if id > 2047 => self.met("rx 1 for an ID above 2047"),
-                    Answer::NoMatchingRow if rows.any(|row| row.id == id) => {
-                        self.met("rx 1 for an ID that another node has");
+                    Answer::NoMatchingRow { place } => {
+                        self.stranger(gateway.plan(), node, id, place);
                     }
-                    _ => {}
+                    Answer::TooShort => {}
                 }
             }
         }

@@ -1,5 +1,6 @@
 //! What the cases met: a table of counts, each of which must be above 0, and
-//! of signals copied, which must have every position and size.
+//! of pairs, all of which must be met: the positions and sizes of signals
+//! copied, and the places of strangers.
 
 use std::collections::{BTreeMap, BTreeSet};
 
@@ -7,7 +8,7 @@ use crate::shapes::Shapes;
 
 pub struct Tally {
     counts: BTreeMap<String, u64>,
-    /// The pairs of each row of `COPIED`.
+    /// The pairs of each row that counts pairs: those of `COPIED` and `PLACES`.
     pairs: BTreeMap<&'static str, BTreeSet<(usize, usize)>>,
 }
 
@@ -55,6 +56,37 @@ pub const COPIED: [[&str; 3]; 2] = [
     ],
 ];
 
+/// Where a stranger stands: each is counted in one of these rows.
+pub const SIDES: [&str; 7] = [
+    "places before the node's rows",
+    "places between the node's rows",
+    "places after the node's rows",
+    "places on a node without rows",
+    "places in a plan without rows",
+    "places of an ID above 2047, with rows",
+    "places of an ID above 2047, without rows",
+];
+
+/// The rows that count pairs of strangers up to ID 2047, each pair once, and
+/// how many pairs there are: the number of the node's rows and the place, for
+/// up to 15 rows and for 256; and a node and a side of its rows, which is before,
+/// between or after them.
+pub const PLACES: [(&str, u64); 3] = [
+    ("places on nodes of 0 to 15 rows, of 136", 136),
+    ("places on a node of 256 rows, of 257", 257),
+    ("sides of the rows of 16 nodes, of 48", 48),
+];
+
+/// Counts that could be taken for the place of a stranger.
+pub const OTHER_COUNTS: [&str; 6] = [
+    "the place in the whole plan",
+    "the smaller IDs of all nodes",
+    "the greater IDs of the node",
+    "the place of the low 11 bits",
+    "the place of the ID with a sign",
+    "the smaller IDs of Tx frames",
+];
+
 /// The sections of the table: a heading, and the rows in their order.
 fn sections() -> Vec<(&'static str, Vec<String>)> {
     vec![
@@ -64,6 +96,7 @@ fn sections() -> Vec<(&'static str, Vec<String>)> {
         ("plans", plans()),
         ("events", events()),
         ("long counters", long_counters()),
+        ("places of strangers", places()),
         (
             "pairs of a position and a size of a signal, of 2080",
             copied(),
@@ -175,6 +208,20 @@ pub fn long_counters() -> Vec<String> {
     rows
 }
 
+/// Ticket 4: "how many of that node's rows have a smaller ID".
+pub fn places() -> Vec<String> {
+    let mut rows = SIDES.map(String::from).to_vec();
+    let others = [
+        "places one above a row's ID",
+        "places one below a row's ID",
+        "places above 255",
+    ];
+    rows.extend(others.map(String::from));
+    rows.extend(OTHER_COUNTS.map(unlike_row));
+    rows.extend(PLACES.map(|(row, _)| row.to_string()));
+    rows
+}
+
 /// One order in each column.
 fn copied() -> Vec<String> {
     COPIED.concat().into_iter().map(String::from).collect()
@@ -202,6 +249,7 @@ pub fn made_row(shape: &str) -> String {
         Some(("records" | "input", _)) => shape,
         Some(("copies", _)) => "signals of every position and size",
         Some(("restarts", _)) => "receptions between expiries of a long count",
+        Some(("places", _)) => "strangers at every place of every node",
         Some(("field", _)) => "a field at or past the end of its range",
         Some(("follower", _)) => "a missing or bad follower",
         Some(("owners", _)) => "bits with two owners, or nearly",
@@ -219,11 +267,10 @@ fn rows() -> Vec<String> {
 /// How often a row must be met. That a source of another offset comes to each
 /// destination is left to chance.
 fn least_count(row: &str) -> u64 {
-    let mut sides = COPIED.iter().flat_map(|[from, to, _]| [from, to]);
-    match sides.any(|side| *side == row) {
-        true => PAIRS,
-        false => 1,
-    }
+    let copied = COPIED.iter().flat_map(|[from, to, _]| [from, to]);
+    let mut all_pairs = copied.map(|side| (*side, PAIRS)).chain(PLACES);
+    let of_row = all_pairs.find(|(name, _)| *name == row);
+    of_row.map_or(1, |(_, pairs)| pairs)
 }
 
 pub fn past_row(what: &str, limit: usize) -> String {
@@ -234,6 +281,11 @@ pub fn past_row(what: &str, limit: usize) -> String {
 /// expiries.
 pub fn despite_row(what: &str) -> String {
     format!("long timeouts despite {what}")
+}
+
+/// For a place that this count would not give.
+pub fn unlike_row(count: &str) -> String {
+    format!("places unlike {count}")
 }
 
 /// For the expiries of a row after an acceptance, where no restart can be seen.
@@ -270,9 +322,9 @@ impl Tally {
         }
     }
 
-    /// Counts the pair for a row of `COPIED`, where it counts once.
-    pub fn met_pair(&mut self, row: &'static str, position: usize, size: usize) {
-        self.pairs.entry(row).or_default().insert((position, size));
+    /// Counts the pair for a row of `COPIED` or `PLACES`, where it counts once.
+    pub fn met_pair(&mut self, row: &'static str, one: usize, other: usize) {
+        self.pairs.entry(row).or_default().insert((one, other));
     }
 
     pub fn count(&self, row: &str) -> u64 {

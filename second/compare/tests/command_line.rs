@@ -91,12 +91,12 @@ fn a_command_that_cannot_be_started_is_a_difference() {
 #[test]
 fn the_first_differing_line_is_named() {
     let text = first_difference(
-        b"plan ok 1 1 1\nrx 0\nrx 1\n",
-        b"plan ok 1 1 1\nrx 0\nrx 2\n",
+        b"plan ok 1 1 1\nrx 0\nrx 1 0\n",
+        b"plan ok 1 1 1\nrx 0\nrx 1 1\n",
     );
     assert_eq!(
         text,
-        "first differing line: 3\n  second : rx 1\n  command: rx 2\n"
+        "first differing line: 3\n  second : rx 1 0\n  command: rx 1 1\n"
     );
     let text = first_difference(b"rx 0\n", b"rx 0");
     assert_eq!(

@@ -7,7 +7,7 @@ use compare::events::Events;
 use compare::rng::Rng;
 use compare::shapes::{Case, Shapes};
 use compare::spec::{Destination, Plan, Rx, Signal, Tx};
-use compare::tally::{long_counters, Tally, COPIED};
+use compare::tally::{long_counters, places, Tally, COPIED, PLACES, SIDES};
 
 /// What these cases meet.
 fn tally_of(cases: impl IntoIterator<Item = Case>) -> Tally {
@@ -104,18 +104,28 @@ fn pairs_count_once_and_where_a_reception_is_accepted() {
     assert!(!never_met.contains(&to_another_offset));
 }
 
-#[test]
-fn a_round_meets_the_rows_of_the_long_counters_by_its_own_shapes() {
+/// In each round the shapes whose names begin so meet these rows without the
+/// others.
+fn assert_met_by(start: &str, rows: &[String]) {
     let shapes = Shapes::all();
     let names: Vec<&str> = shapes.names().collect();
-    let is_own = |index: &usize| names[*index].starts_with("restarts: ");
+    let is_own = |index: &usize| names[*index].starts_with(start);
     for seed in 0..100 {
         let round = (0..shapes.count()).filter(is_own);
-        let tally = tally_of(cases(&shapes, seed, round));
-        for row in long_counters() {
-            assert!(tally.count(&row) > 0, "seed {seed}: {row}");
-        }
+        let mut never_met = tally_of(cases(&shapes, seed, round)).never_met();
+        never_met.retain(|row| rows.contains(row));
+        assert_eq!(never_met, Vec::<String>::new(), "seed {seed}");
     }
+}
+
+#[test]
+fn a_round_meets_the_rows_of_the_long_counters_by_its_own_shapes() {
+    assert_met_by("restarts: ", &long_counters());
+}
+
+#[test]
+fn a_round_meets_the_rows_of_the_places_by_its_own_shapes() {
+    assert_met_by("places: ", &places());
 }
 
 /// A row of one byte that expires once in so many ticks.
@@ -154,15 +164,14 @@ fn met_around(row: Rx, before: usize, add: Add, after: usize) -> Vec<(String, u6
     events.ticks(before);
     add(&mut events);
     events.ticks(after);
-    let tally = tally_of([case_of(&plan, &events)]);
-    let mut rows = Vec::new();
-    for row in long_counters() {
-        let count = tally.count(&row);
-        if count > 0 {
-            rows.push((row, count));
-        }
-    }
-    rows
+    met_of(long_counters(), &tally_of([case_of(&plan, &events)]))
+}
+
+/// Those of the rows that are met, with their counts.
+fn met_of(rows: Vec<String>, tally: &Tally) -> Vec<(String, u64)> {
+    let counted = rows.into_iter().map(|row| (tally.count(&row), row));
+    let met = counted.filter(|(count, _)| *count > 0);
+    met.map(|(count, row)| (row, count)).collect()
 }
 
 fn once(rows: &[&str]) -> Vec<(String, u64)> {
@@ -210,6 +219,138 @@ fn long_timeouts_that_come_when_due_are_counted() {
     let met = |ticks| met_around(expiring(2, 2), ticks, |_| {}, 0);
     assert_eq!(met(3), once(&[]));
     assert_eq!(met(4), once(&[row]));
+}
+
+/// Node 0 has a Tx frame of ID 3 and rows 5 and 8, node 1 nothing, and node 2
+/// row 6.
+fn two_rows_none_and_one() -> Plan {
+    Plan {
+        nodes: 3,
+        tx: vec![Tx::quiet(0, 3, 1)],
+        rx: [(0, 5), (0, 8), (2, 6)]
+            .map(|(node, id)| Rx::quiet(node, id, 1))
+            .to_vec(),
+        ..Plan::default()
+    }
+}
+
+/// The rows of the places that receptions of this ID and of these lengths meet.
+fn met_by(plan: &Plan, node: u8, id: u16, lengths: &[u8]) -> Vec<(String, u64)> {
+    let mut events = Events::new(plan);
+    for length in lengths {
+        events.reception(node, id, *length, [0; 8]);
+    }
+    met_of(places(), &tally_of([case_of(plan, &events)]))
+}
+
+#[test]
+fn the_sides_of_strangers_are_counted() {
+    let plan = two_rows_none_and_one();
+    let met = |node, id| met_by(&plan, node, id, &[1]);
+    let [of_few_rows, _, sides] = PLACES.map(|(row, _)| row);
+    let before = [
+        "places before the node's rows",
+        "places one below a row's ID",
+        "places unlike the greater IDs of the node",
+        "places unlike the smaller IDs of Tx frames",
+        of_few_rows,
+        sides,
+    ];
+    assert_eq!(met(0, 4), once(&before));
+    let between = [
+        "places between the node's rows",
+        "places one below a row's ID",
+        "places unlike the smaller IDs of all nodes",
+        of_few_rows,
+        sides,
+    ];
+    assert_eq!(met(0, 7), once(&between));
+    let after = [
+        "places after the node's rows",
+        "places one above a row's ID",
+        "places unlike the place in the whole plan",
+        "places unlike the smaller IDs of all nodes",
+        "places unlike the greater IDs of the node",
+        "places unlike the smaller IDs of Tx frames",
+        of_few_rows,
+        sides,
+    ];
+    assert_eq!(met(2, 7), once(&after));
+    let without_rows = [
+        "places on a node without rows",
+        "places unlike the place in the whole plan",
+        "places unlike the smaller IDs of all nodes",
+        of_few_rows,
+    ];
+    assert_eq!(met(1, 7), once(&without_rows));
+}
+
+#[test]
+fn strangers_above_2047_are_counted() {
+    let plan = two_rows_none_and_one();
+    let met = |node, id| met_by(&plan, node, id, &[1]);
+    let low_bits_elsewhere = [
+        "places of an ID above 2047, with rows",
+        "places unlike the smaller IDs of all nodes",
+        "places unlike the greater IDs of the node",
+        "places unlike the place of the low 11 bits",
+        "places unlike the smaller IDs of Tx frames",
+    ];
+    assert_eq!(met(0, 2048 + 7), once(&low_bits_elsewhere));
+    let negative = [
+        "places of an ID above 2047, with rows",
+        "places unlike the smaller IDs of all nodes",
+        "places unlike the greater IDs of the node",
+        "places unlike the place of the ID with a sign",
+        "places unlike the smaller IDs of Tx frames",
+    ];
+    assert_eq!(met(0, u16::MAX), once(&negative));
+    let without_rows = [
+        "places of an ID above 2047, without rows",
+        "places unlike the place in the whole plan",
+        "places unlike the smaller IDs of all nodes",
+    ];
+    assert_eq!(met(1, 2048), once(&without_rows));
+}
+
+#[test]
+fn places_of_no_rows_and_of_256_are_counted() {
+    let [of_few_rows, of_256_rows, sides] = PLACES.map(|(row, _)| row);
+    let mut plan = Plan {
+        nodes: 1,
+        ..Plan::default()
+    };
+    let no_rows = ["places in a plan without rows", of_few_rows];
+    assert_eq!(met_by(&plan, 0, 7, &[1]), once(&no_rows));
+    plan.rx = (0..256).map(|id| Rx::quiet(0, id, 1)).collect();
+    let rows = [
+        "places after the node's rows",
+        "places above 255",
+        "places unlike the greater IDs of the node",
+        "places unlike the smaller IDs of Tx frames",
+        of_256_rows,
+        sides,
+    ];
+    assert_eq!(met_by(&plan, 0, 300, &[1]), once(&rows));
+}
+
+#[test]
+fn a_pair_of_places_counts_once() {
+    let plan = two_rows_none_and_one();
+    let met = met_by(&plan, 0, 7, &[0, 1, 8]);
+    let has_pairs = |row: &str| PLACES.iter().any(|(of_pairs, _)| *of_pairs == row);
+    for (row, count) in met {
+        assert_eq!(count, if has_pairs(&row) { 1 } else { 3 }, "{row}");
+    }
+}
+
+#[test]
+fn only_strangers_have_places() {
+    let plan = two_rows_none_and_one();
+    // Accepted, too short, too long; the last also where no row is.
+    assert_eq!(met_by(&plan, 0, 8, &[1, 8, 0, 9]), once(&[]));
+    assert_eq!(met_by(&plan, 0, 7, &[9]), once(&[]));
+    assert_eq!(met_by(&plan, 3, 7, &[1]), once(&[]));
 }
 
 #[test]
@@ -266,6 +407,10 @@ fn the_table_counts_what_the_lines_say() {
     for row in rows {
         assert_eq!(tally.count(row), lines_of(&outputs, row), "{row}");
     }
+    let of_256 = lines_of(&outputs, "rx 1 256");
+    assert_eq!(tally.count("places above 255"), of_256);
+    let strangers: u64 = SIDES.iter().map(|row| tally.count(row)).sum();
+    assert_eq!(strangers, lines_of(&outputs, "rx 1"));
     let bad = lines_of(&outputs, "input bad");
     let alone = tally.count("input bad alone");
     let first = tally.count("input bad as the first event");

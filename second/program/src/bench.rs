@@ -1,6 +1,6 @@
 //! The bench program: events in, lines out.
 
-use crate::gateway::{Gateway, Taken};
+use crate::gateway::{Answer, Gateway, Taken};
 use crate::parse::two_byte_number;
 use crate::refusal::Refusal;
 
@@ -136,7 +136,7 @@ fn event_line(gateway: &mut Gateway, event: Event) -> String {
             length,
             data,
         } => match gateway.receive(node, id, &handed_on(length, &data)) {
-            Ok(answer) => format!("rx {}", answer as u8),
+            Ok(answer) => rx_line(answer),
             Err(refusal) => refused_line("rx", refusal),
         },
         Event::Tick => {
@@ -157,6 +157,15 @@ fn event_line(gateway: &mut Gateway, event: Event) -> String {
 /// "A refused event prints its word, `refused` and the number."
 fn refused_line(word: &str, refusal: Refusal) -> String {
     format!("{word} refused {}", refusal.number())
+}
+
+/// "`rx ANSWER`". Ticket 4: "the bench prints `rx 1 PLACE`."
+fn rx_line(answer: Answer) -> String {
+    let mut line = format!("rx {}", answer.number());
+    if let Answer::NoMatchingRow { place } = answer {
+        line.push_str(&format!(" {place}"));
+    }
+    line
 }
 
 /// "`tick` and the report bytes in decimal, single spaces between".

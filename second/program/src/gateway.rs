@@ -60,9 +60,22 @@ impl Timer {
 /// What a reception answers.
 #[derive(Clone, Copy, Debug, PartialEq, Eq)]
 pub enum Answer {
-    Accepted = 0,
-    NoMatchingRow = 1,
-    TooShort = 2,
+    Accepted,
+    /// Ticket 4: "Answer 1 carries this number", the place.
+    NoMatchingRow {
+        place: usize,
+    },
+    TooShort,
+}
+
+impl Answer {
+    pub fn number(self) -> u8 {
+        match self {
+            Answer::Accepted => 0,
+            Answer::NoMatchingRow { .. } => 1,
+            Answer::TooShort => 2,
+        }
+    }
 }
 
 /// What a take hands out: "its Tx number, ID, size, how many still wait on
@@ -134,7 +147,8 @@ impl Gateway {
         // "A frame with no matching row is not processed further: answer 1,
         // nothing changes; an ID above 2047 is such a frame."
         let Some(rx_number) = self.find_row(node, id) else {
-            return Ok(Answer::NoMatchingRow);
+            let place = self.place(node, id);
+            return Ok(Answer::NoMatchingRow { place });
         };
         // "A payload shorter than the row's size: answer 2, nothing changes."
         let row = self.plan.rx_frames[rx_number].clone();
@@ -177,6 +191,12 @@ impl Gateway {
     fn find_row(&self, node: u8, id: u16) -> Option<usize> {
         let rows = &self.plan.rx_frames;
         rows.iter().position(|row| row.node == node && row.id == id)
+    }
+
+    /// Ticket 4: "how many of that node's rows have a smaller ID".
+    fn place(&self, node: u8, id: u16) -> usize {
+        let rows = self.plan.rx_frames.iter();
+        rows.filter(|row| row.node == node && row.id < id).count()
     }
 
     /// "A change of a failure bit schedules nothing."

@@ -1,5 +1,5 @@
-//! The second program: the bench program of document 01, with Ticket 1 of
-//! document 02.
+//! The second program: the bench program of document 01, with Tickets 1 and 4
+//! of document 02.
 //!
 //! How it was kept apart: this package was written from these documents alone,
 //! by someone who had not read the Rattle sources, nor their design, their

@@ -90,11 +90,12 @@ fn a_reception_looks_at_its_own_node_only() {
         quiet_rx(0x20, 0),
         rx(1, 0x21, 0, 1, 0, 0, 0, 0, 0),
     ]);
+    let no_row = |place| Ok(Answer::NoMatchingRow { place });
     let mut gateway = Gateway::open(&plan).expect("a good plan");
     assert_eq!(gateway.receive(0, 0x20, &[]), Ok(Answer::Accepted));
-    assert_eq!(gateway.receive(1, 0x20, &[]), Ok(Answer::NoMatchingRow));
+    assert_eq!(gateway.receive(1, 0x20, &[]), no_row(0));
     assert_eq!(gateway.receive(1, 0x21, &[]), Ok(Answer::Accepted));
-    assert_eq!(gateway.receive(0, 0x820, &[]), Ok(Answer::NoMatchingRow));
+    assert_eq!(gateway.receive(0, 0x820, &[]), no_row(1));
 }
 
 #[test]

@@ -1,4 +1,6 @@
 //! Document 01's full listing, byte for byte.
+//!
+//! Ticket 4: "In 01's listing the line `rx 1` becomes `rx 1 1`."
 
 mod common;
 
@@ -20,7 +22,7 @@ take 0 256 2 02c1 0
 tick 2
 rx 0
 take none
-rx 1
+rx 1 1
 rx 2
 ";
 

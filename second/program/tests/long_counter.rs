@@ -72,9 +72,9 @@ fn a_reception_after_a_long_timeout_begins_the_long_count_anew() {
 fn what_is_no_accepted_reception_does_not_put_a_long_timeout_off() {
     let others = [
         (reception(0, 5, &[]), "rx 2"),
-        (reception(0, 6, &[1]), "rx 1"),
-        (reception(1, 5, &[1]), "rx 1"),
-        (reception(0, 2048 + 5, &[1]), "rx 1"),
+        (reception(0, 6, &[1]), "rx 1 1"),
+        (reception(1, 5, &[1]), "rx 1 0"),
+        (reception(0, 2048 + 5, &[1]), "rx 1 1"),
         (reception(2, 5, &[1]), "rx refused 12"),
         (reception_of_length(0, 5, 9, [0; 8]), "rx refused 13"),
         (take(0), "take none"),

@@ -1,14 +1,14 @@
--- `interface::gateway_receive` meets its contract: its word is that of the call's answer.
+-- `interface::gateway_receive` meets its contract: its struct is that of the call's answer.
 use mathlib.Core.Path.{ap, _∙_}
 use borrow.Author.Needs.{needs}
-use Rattle.answers.specs.Answers.{receivedNumber}
+use Rattle.interface.specs.Structs.{receivedStruct}
 use Rattle.interface.proofs.gateway_receive.Statement.{statement}
 use Rattle.interface.proofs.gateway_receive.Tie as tie
 
 returns : tie.Need-returns
 returns c =
     let call = c .before .before .before .receive in
-    (c .received-number .ensures ∙ ap receivedNumber (call .ensures .0), call .ensures .1)
+    (c .received-struct .ensures ∙ ap receivedStruct (call .ensures .0), call .ensures .1)
 
 pub gateway-receive-spec : {M : Type 1} → statement M
 gateway-receive-spec = tie.close (tie.spec (λ c κs. search needs) (λ c κs. search needs) (λ c. search needs) returns)

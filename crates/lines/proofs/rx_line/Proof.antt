@@ -13,7 +13,8 @@ rx-line-spec =
     (λ c. search needs) (λ c. search needs) (λ c κs. search needs) (λ c. search needs) (λ c. search needs) (λ c κs. search needs)
     (λ c κs. search needs) (λ c. search needs)
     (λ c. rw (c .before .before .before .before .before .enum-told .given .1) (c .before .before .line-of-one .ensures)) (λ c. search needs)
+    (λ c. let c5 = c .before .before .before .before .before in
+    rw (c5 .before .answer .given .1) (c .before .before .line-of-two .ensures)) (λ c. search needs)
     (λ c. rw (c .before .before .before .before .before .enum-told2 .given .1) (c .before .before .line-of-one2 .ensures)) (λ c. search needs)
-    (λ c. rw (c .before .before .before .before .before .enum-told3 .given .1) (c .before .before .line-of-one3 .ensures)) (λ c. search needs)
     (λ c. let number = c .before .before .before .before in
-    rw (number .before .before .before .answer .given .1, ← (number .refusal-number .ensures)) (c .before .before .line-of-one4 .ensures)))
+    rw (number .before .before .before .answer2 .given .1, ← (number .refusal-number .ensures)) (c .before .before .line-of-one3 .ensures)))

@@ -13,6 +13,7 @@ mod inputs;
 mod limits;
 mod order_of_tests;
 mod owners;
+mod places;
 mod records;
 mod restarts;
 mod showcase;
@@ -54,6 +55,7 @@ impl Shapes {
         special.extend(showcase::shapes());
         special.extend(copies::shapes());
         special.extend(restarts::shapes());
+        special.extend(places::shapes());
         special.extend(limits::shapes());
         special.extend(fields::shapes());
         special.extend(followers::shapes());

@@ -12,6 +12,9 @@ const fn mistake(
     Mistake { name, changes }
 }
 
+/// How the second program counts a place.
+const PLACE: &str = "rows.filter(|row| row.node == node && row.id < id).count()";
+
 pub const MISTAKES: &[Mistake] = &[
     // The errors that look right, in document 01's order.
     mistake(
@@ -385,13 +388,13 @@ pub const MISTAKES: &[Mistake] = &[
         "restart of the node's rows at a reception that finds no row",
         &[(
             "gateway.rs",
-            "            return Ok(Answer::NoMatchingRow);\n",
+            "            return Ok(Answer::NoMatchingRow { place });\n",
             "            for (row, state) in self.plan.rx_frames.iter().zip(&mut self.rx_states) {
                  if row.node == node {
                      state.long_counter = row.long_count;
                  }
              }
-             return Ok(Answer::NoMatchingRow);\n",
+             return Ok(Answer::NoMatchingRow { place });\n",
         )],
     ),
     mistake(
@@ -565,6 +568,320 @@ pub const MISTAKES: &[Mistake] = &[
             "gateway.rs",
             "*long_counter = self.plan.rx_frames[rx_number].long_count;",
             "*long_counter = 1;",
+        )],
+    ),
+    // Ticket 4: how many of that node's rows have a smaller ID.
+    mistake(
+        "no place",
+        &[(
+            "bench.rs",
+            "line.push_str(&format!(\" {place}\"));",
+            "let _ = place;",
+        )],
+    ),
+    mistake(
+        "no place where it is 0",
+        &[(
+            "bench.rs",
+            "if let Answer::NoMatchingRow { place } = answer {",
+            "if let Answer::NoMatchingRow { place: place @ 1.. } = answer {",
+        )],
+    ),
+    mistake(
+        "no place on a node without rows",
+        &[(
+            "bench.rs",
+            "            Ok(answer) => rx_line(answer),\n",
+            "            Ok(Answer::NoMatchingRow { .. })
+                 if gateway.plan().rx_frames.iter().all(|row| row.node != node) =>
+             {
+                 \"rx 1\".to_string()
+             }
+             Ok(answer) => rx_line(answer),\n",
+        )],
+    ),
+    mistake(
+        "no place for an ID above 2047",
+        &[(
+            "bench.rs",
+            "            Ok(answer) => rx_line(answer),\n",
+            "            Ok(Answer::NoMatchingRow { .. }) if id > 2047 => \"rx 1\".to_string(),
+             Ok(answer) => rx_line(answer),\n",
+        )],
+    ),
+    mistake(
+        "a place after answer 2",
+        &[(
+            "bench.rs",
+            "        line.push_str(&format!(\" {place}\"));\n    }\n",
+            "        line.push_str(&format!(\" {place}\"));
+             } else if answer == Answer::TooShort {
+                 line.push_str(\" 0\");
+             }\n",
+        )],
+    ),
+    mistake(
+        "the place in hex",
+        &[("bench.rs", "\" {place}\"", "\" {place:x}\"")],
+    ),
+    mistake(
+        "places from 1",
+        &[(
+            "gateway.rs",
+            PLACE,
+            "1 + rows.filter(|row| row.node == node && row.id < id).count()",
+        )],
+    ),
+    mistake(
+        "the first row not counted",
+        &[(
+            "gateway.rs",
+            PLACE,
+            "rows.filter(|row| row.node == node && row.id < id).skip(1).count()",
+        )],
+    ),
+    mistake(
+        "the last row not counted",
+        &[(
+            "gateway.rs",
+            PLACE,
+            "let rows: Vec<_> = rows.filter(|row| row.node == node).collect();
+             let counted = rows.iter().take(rows.len().saturating_sub(1));
+             counted.filter(|row| row.id < id).count()",
+        )],
+    ),
+    mistake(
+        "a row of the next lower ID not counted",
+        &[(
+            "gateway.rs",
+            PLACE,
+            "rows.filter(|row| row.node == node && row.id + 1 < id).count()",
+        )],
+    ),
+    mistake(
+        "rows of all nodes counted",
+        &[(
+            "gateway.rs",
+            PLACE,
+            "let _ = node;
+             rows.filter(|row| row.id < id).count()",
+        )],
+    ),
+    mistake(
+        "the place in the whole plan",
+        &[(
+            "gateway.rs",
+            PLACE,
+            "rows.filter(|row| (row.node, row.id) < (node, id)).count()",
+        )],
+    ),
+    mistake(
+        "the place in the whole plan on a node without rows",
+        &[(
+            "gateway.rs",
+            PLACE,
+            "let has_rows = rows.clone().any(|row| row.node == node);
+             rows.filter(|row| (row.node, row.id) < (node, id))
+                 .filter(|row| row.node == node || !has_rows)
+                 .count()",
+        )],
+    ),
+    mistake(
+        "rows with an equal or greater ID counted",
+        &[(
+            "gateway.rs",
+            PLACE,
+            "rows.filter(|row| row.node == node && row.id >= id).count()",
+        )],
+    ),
+    mistake(
+        "all rows of the node counted",
+        &[(
+            "gateway.rs",
+            PLACE,
+            "let _ = id;
+             rows.filter(|row| row.node == node).count()",
+        )],
+    ),
+    mistake(
+        "Tx frames counted in place of rows",
+        &[(
+            "gateway.rs",
+            "        let rows = self.plan.rx_frames.iter();\n",
+            "        let rows = self.plan.tx_frames.iter();\n",
+        )],
+    ),
+    mistake(
+        "Tx frames counted with the rows",
+        &[(
+            "gateway.rs",
+            PLACE,
+            "let tx_frames = self.plan.tx_frames.iter();
+             tx_frames.filter(|tx| tx.node == node && tx.id < id).count()
+                 + rows.filter(|row| row.node == node && row.id < id).count()",
+        )],
+    ),
+    mistake(
+        "signals counted with the rows",
+        &[(
+            "gateway.rs",
+            PLACE,
+            "rows.filter(|row| row.node == node && row.id < id)
+                 .map(|row| 1 + row.signals.len())
+                 .sum()",
+        )],
+    ),
+    mistake(
+        "rows of a stopped timer not counted",
+        &[(
+            "gateway.rs",
+            PLACE,
+            "rows.zip(&self.rx_states)
+                 .filter(|(row, state)| row.node == node && row.id < id && state.timer.count > 0)
+                 .count()",
+        )],
+    ),
+    mistake(
+        "strangers counted as rows",
+        &[
+            (
+                "gateway.rs",
+                "    tick_number: u64,\n}\n",
+                "    tick_number: u64,\n    strangers: Vec<(u8, u16)>,\n}\n",
+            ),
+            (
+                "gateway.rs",
+                "            tick_number: 0,\n",
+                "            tick_number: 0,\n            strangers: Vec::new(),\n",
+            ),
+            (
+                "gateway.rs",
+                "            let place = self.place(node, id);\n",
+                "            let before = self.strangers.iter();
+             let before = before.filter(|stranger| stranger.0 == node && stranger.1 < id);
+             let place = self.place(node, id) + before.count();
+             self.strangers.push((node, id));\n",
+            ),
+        ],
+    ),
+    mistake(
+        "an ID above 2047 at place 0",
+        &[(
+            "gateway.rs",
+            PLACE,
+            "rows.filter(|row| row.node == node && row.id < id && id <= 2047).count()",
+        )],
+    ),
+    mistake(
+        "an ID above 2047 after the rows of all nodes",
+        &[(
+            "gateway.rs",
+            PLACE,
+            "rows.filter(|row| (row.node == node || id > 2047) && row.id < id).count()",
+        )],
+    ),
+    mistake(
+        "the place of the low 11 bits",
+        &[(
+            "gateway.rs",
+            PLACE,
+            "rows.filter(|row| row.node == node && row.id < id % 2048).count()",
+        )],
+    ),
+    mistake(
+        "the place of the low 12 bits",
+        &[(
+            "gateway.rs",
+            PLACE,
+            "rows.filter(|row| row.node == node && row.id < id % 4096).count()",
+        )],
+    ),
+    mistake(
+        "the place of the ID with a sign",
+        &[(
+            "gateway.rs",
+            PLACE,
+            "rows.filter(|row| row.node == node && (row.id as i16) < id as i16).count()",
+        )],
+    ),
+    mistake(
+        "the place in a byte",
+        &[(
+            "gateway.rs",
+            PLACE,
+            "rows.filter(|row| row.node == node && row.id < id).count() % 256",
+        )],
+    ),
+    mistake(
+        "the place 255 at most",
+        &[(
+            "gateway.rs",
+            PLACE,
+            "rows.filter(|row| row.node == node && row.id < id).count().min(255)",
+        )],
+    ),
+    mistake(
+        "the place in the half searched last",
+        &[(
+            "gateway.rs",
+            PLACE,
+            "fn in_part(ids: &[u16], id: u16) -> usize {
+                 let middle = ids.len() / 2;
+                 match ids.get(middle) {
+                     None => 0,
+                     Some(row) if id < *row => in_part(&ids[..middle], id),
+                     Some(_) => in_part(&ids[middle + 1..], id),
+                 }
+             }
+             let rows = rows.filter(|row| row.node == node);
+             in_part(&rows.map(|row| row.id).collect::<Vec<u16>>(), id)",
+        )],
+    ),
+    mistake(
+        "the middle row not counted before the upper half",
+        &[(
+            "gateway.rs",
+            PLACE,
+            "fn in_part(ids: &[u16], id: u16) -> usize {
+                 let middle = ids.len() / 2;
+                 match ids.get(middle) {
+                     None => 0,
+                     Some(row) if id < *row => in_part(&ids[..middle], id),
+                     Some(_) => middle + in_part(&ids[middle + 1..], id),
+                 }
+             }
+             let rows = rows.filter(|row| row.node == node);
+             in_part(&rows.map(|row| row.id).collect::<Vec<u16>>(), id)",
+        )],
+    ),
+    mistake(
+        "one place among 13 rows one too high",
+        &[(
+            "gateway.rs",
+            PLACE,
+            "let rows: Vec<_> = rows.filter(|row| row.node == node).collect();
+             let place = rows.iter().filter(|row| row.id < id).count();
+             place + usize::from((rows.len(), place) == (13, 7))",
+        )],
+    ),
+    mistake(
+        "one place among 256 rows one too high",
+        &[(
+            "gateway.rs",
+            PLACE,
+            "let rows: Vec<_> = rows.filter(|row| row.node == node).collect();
+             let place = rows.iter().filter(|row| row.id < id).count();
+             place + usize::from((rows.len(), place) == (256, 201))",
+        )],
+    ),
+    mistake(
+        "places between the rows of one node one too high",
+        &[(
+            "gateway.rs",
+            PLACE,
+            "let rows: Vec<_> = rows.filter(|row| row.node == node).collect();
+             let place = rows.iter().filter(|row| row.id < id).count();
+             place + usize::from(node == 11 && (1..rows.len()).contains(&place))",
         )],
     ),
     // The plan: counts.

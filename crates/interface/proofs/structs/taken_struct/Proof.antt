@@ -1,0 +1,15 @@
+-- `interface::structs::taken_struct` meets its contract: by the variant.
+use borrow.Author.Needs.{needs}
+use Rattle.interface.specs.Structs.{takenStruct}
+use Rattle.interface.proofs.structs.taken_struct.Statement.{statement}
+use Rattle.interface.proofs.structs.taken_struct.Tie as tie
+
+pub taken-struct-spec : {M : Type 1} → statement M
+unfolding takenStruct
+taken-struct-spec =
+    tie.close
+    (tie.spec (λ c. search needs) (λ c κs. search needs) (λ c. search needs) (λ c κs. search needs) (λ c κs. search needs) (λ c. search needs)
+    (λ c κs. search needs) (λ c. search needs) (λ c κs. search needs) (λ c κs. search needs)
+    (λ c. rw (c .before .enum-told .given .1) (c .no-frame .ensures))
+    (λ c. rw (c .before .before .before .before .answer .given .1, c .before .before .low .ensures, c .before .low2 .ensures, c .low3 .ensures))
+    (λ c. rw (c .before .before .before .answer2 .given .1, ← (c .before .refusal-number .ensures)) (c .no-frame2 .ensures)))

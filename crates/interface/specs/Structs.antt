@@ -1,0 +1,62 @@
+-- Each answer as a struct of numbers, which C can take. `number` is document 01's number of the answer or the refusal; it is 0 where there is neither.
+-- A field that says nothing is 0.
+use Prim.Native.Nat.{ℕ, _%_}
+use Rattle.base.specs.Pick.{pick}
+use Rattle.base.specs.Numbers.{atMost}
+use Rattle.area.specs.Layout.{longEnough, payload, inWidth}
+use Rattle.answers.specs.declared.Opened.{Opened}
+use Rattle.answers.specs.declared.Opened.the-variants as opened
+use Rattle.answers.specs.declared.Received.{Received}
+use Rattle.answers.specs.declared.Received.the-variants as received
+use Rattle.answers.specs.declared.Ticked.{Ticked}
+use Rattle.answers.specs.declared.Ticked.the-variants as ticked
+use Rattle.answers.specs.declared.Taken.{Taken}
+use Rattle.answers.specs.declared.Taken.the-variants as taken
+use Rattle.answers.specs.declared.Fullness.{Fullness}
+use Rattle.answers.specs.declared.Fullness.the-variants as fullness
+use Rattle.answers.specs.Answers.{refusalNumber, receivedNumber}
+use Rattle.interface.specs.declared.structs.GatewayOpened.{GatewayOpened}
+use Rattle.interface.specs.declared.structs.GatewayReceived.{GatewayReceived}
+use Rattle.interface.specs.declared.structs.GatewayTaken.{GatewayTaken}
+use Rattle.interface.specs.declared.structs.GatewayPayload.{GatewayPayload}
+use Rattle.interface.specs.declared.structs.GatewayFullness.{GatewayFullness}
+
+-- the counts of nodes, Tx and Rx frames; or the refusal and its record's number
+unfoldable pub openedStruct : Opened → GatewayOpened
+openedStruct (opened.Open nodes tx rx) = record { number = 0; «record» = 0; nodes = nodes % 65536; tx = tx % 65536; rx = rx % 65536 }
+openedStruct (opened.Refused why at) = record { number = refusalNumber why; «record» = atMost 65535 at; nodes = 0; tx = 0; rx = 0 }
+
+-- answer 1 has the place
+unfoldable pub receivedStruct : Received → GatewayReceived
+receivedStruct received.Accepted = record { number = receivedNumber received.Accepted; place = 0 }
+receivedStruct (received.NoRow place) = record { number = receivedNumber (received.NoRow place); place = place % 65536 }
+receivedStruct received.TooShort = record { number = receivedNumber received.TooShort; place = 0 }
+receivedStruct (received.Refused why) = record { number = refusalNumber why; place = 0 }
+
+-- a tick that is done has 0
+unfoldable pub tickedNumber : Ticked → ℕ
+tickedNumber ticked.Done = 0
+tickedNumber (ticked.Refused why) = refusalNumber why
+
+-- kind 1 says that there is a frame, and 0 that there is none: none waits, or the take was refused
+unfoldable pub noFrame : ℕ → GatewayTaken
+noFrame number = record { number = number; kind = 0; tx = 0; size = 0; id = 0; waiting = 0 }
+
+unfoldable pub takenStruct : Taken → GatewayTaken
+takenStruct taken.Nothing = noFrame 0
+takenStruct (taken.Frame t id size waiting) =
+    record { number = 0; kind = 1; tx = t .0 % 65536; size = size % 65536; id = id % 4294967296; waiting = waiting % 65536 }
+takenStruct (taken.Refused why) = noFrame (refusalNumber why)
+
+unfoldable pub fullnessStruct : Fullness → GatewayFullness
+fullnessStruct (fullness.Owned n) = record { number = 0; bits = n % 65536 }
+fullnessStruct (fullness.Refused why) = record { number = refusalNumber why; bits = 0 }
+
+unfoldable pub noPart : GatewayPayload
+noPart = record { at = 0; size = 0 }
+
+-- the payload of what was taken, as a part of an area of n bytes: where it begins, and its size
+unfoldable pub payloadStruct : ℕ → Taken → GatewayPayload
+payloadStruct n (taken.Frame t id size waiting) = pick (longEnough n) (record { at = payload (t .0 % 256); size = inWidth size }) noPart
+payloadStruct n taken.Nothing = noPart
+payloadStruct n (taken.Refused why) = noPart

@@ -1,0 +1,190 @@
+// What C is answered: a struct for each call, and how it is made of the call's answer. specs/Structs.antt says what stands in each field.
+use answers::Fullness;
+use answers::Opened;
+use answers::Received;
+use answers::Refusal;
+use answers::Taken;
+use answers::Ticked;
+use area::layout;
+use area::layout::AREA_LENGTH;
+use area::layout::in_width;
+use base::at_most;
+use records::record::TxNumber;
+ghost use mathlib.Core.Path.{_≡_};
+ghost use Prim.Native.Nat.{_%_};
+ghost use Rattle.answers.specs.Answers.{refusalNumber};
+ghost use Rattle.interface.specs.Structs.{openedStruct, receivedStruct, tickedNumber, noFrame, takenStruct, payloadStruct, fullnessStruct};
+ghost use Rattle.interface.specs.Back.{takenOf};
+
+#[repr(C)]
+pub struct GatewayOpened {
+    pub number: u16,
+    pub record: u16,
+    pub nodes: u16,
+    pub tx: u16,
+    pub rx: u16,
+}
+
+#[repr(C)]
+pub struct GatewayReceived {
+    pub number: u16,
+    pub place: u16,
+}
+
+#[repr(C)]
+pub struct GatewayTaken {
+    pub number: u16,
+    pub kind: u16,
+    pub tx: u16,
+    pub size: u16,
+    pub id: u32,
+    pub waiting: u16,
+}
+
+#[repr(C)]
+pub struct GatewayPayload {
+    pub at: u16,
+    pub size: u16,
+}
+
+#[repr(C)]
+pub struct GatewayFullness {
+    pub number: u16,
+    pub bits: u16,
+}
+
+// Document 01's number of a refusal.
+fn refusal_number(why: Refusal) -> u16
+    ensures { λ r. ⌜ r ≡ refusalNumber why ⌝ }
+{
+    (answers::refusal_number(why) % 65536) as u16
+}
+
+// The lowest 16 bits.
+fn low(n: usize) -> u16
+    ensures { λ r. ⌜ r ≡ n % 65536 ⌝ }
+{
+    (n % 65536) as u16
+}
+
+// The record's number comes into range by a comparison: with a remainder the compiler counts the records in 16 bits, which takes longer.
+pub fn opened_struct(answer: Opened) -> GatewayOpened
+    ensures { λ r. ⌜ r ≡ openedStruct answer ⌝ }
+{
+    match answer {
+        Opened::Open { nodes, tx, rx } => GatewayOpened {
+            number: 0,
+            record: 0,
+            nodes: low(nodes),
+            tx: low(tx),
+            rx: low(rx),
+        },
+        Opened::Refused { why, record } => GatewayOpened {
+            number: refusal_number(why),
+            record: at_most(65535, record) as u16,
+            nodes: 0,
+            tx: 0,
+            rx: 0,
+        },
+    }
+}
+
+pub fn received_struct(answer: Received) -> GatewayReceived
+    ensures { λ r. ⌜ r ≡ receivedStruct answer ⌝ }
+{
+    match answer {
+        Received::Accepted => GatewayReceived {
+            number: 0,
+            place: 0,
+        },
+        Received::NoRow { place } => GatewayReceived {
+            number: 1,
+            place: low(place),
+        },
+        Received::TooShort => GatewayReceived {
+            number: 2,
+            place: 0,
+        },
+        Received::Refused(why) => GatewayReceived {
+            number: refusal_number(why),
+            place: 0,
+        },
+    }
+}
+
+pub fn ticked_number(answer: Ticked) -> u16
+    ensures { λ r. ⌜ r ≡ tickedNumber answer ⌝ }
+{
+    match answer {
+        Ticked::Done => 0,
+        Ticked::Refused(why) => refusal_number(why),
+    }
+}
+
+// A take without a frame: none waits, or the take was refused.
+fn no_frame(number: u16) -> GatewayTaken
+    ensures { λ r. ⌜ r ≡ noFrame number ⌝ }
+{
+    GatewayTaken {
+        number,
+        kind: 0,
+        tx: 0,
+        size: 0,
+        id: 0,
+        waiting: 0,
+    }
+}
+
+pub fn taken_struct(answer: Taken) -> GatewayTaken
+    ensures { λ r. ⌜ r ≡ takenStruct answer ⌝ }
+{
+    match answer {
+        Taken::Nothing => no_frame(0),
+        Taken::Frame {
+            tx,
+            id,
+            size,
+            waiting,
+        } => GatewayTaken {
+            number: 0,
+            kind: 1,
+            tx: low(tx.0),
+            size: low(size),
+            id: (id % 4294967296) as u32,
+            waiting: low(waiting),
+        },
+        Taken::Refused(why) => no_frame(refusal_number(why)),
+    }
+}
+
+pub fn fullness_struct(answer: Fullness) -> GatewayFullness
+    ensures { λ r. ⌜ r ≡ fullnessStruct answer ⌝ }
+{
+    match answer {
+        Fullness::Owned(n) => GatewayFullness {
+            number: 0,
+            bits: low(n),
+        },
+        Fullness::Refused(why) => GatewayFullness {
+            number: refusal_number(why),
+            bits: 0,
+        },
+    }
+}
+
+// Of an area of `length` bytes, the part that is the payload of what a take's struct says.
+pub fn payload_struct(length: usize, taken: GatewayTaken) -> GatewayPayload
+    ensures { λ r. ⌜ r ≡ payloadStruct length (takenOf taken) ⌝ }
+{
+    if taken.kind == 1 {
+        if AREA_LENGTH <= length {
+            let at = layout::payload(TxNumber((taken.tx % 256) as usize));
+            let size = in_width(taken.size as usize);
+            return GatewayPayload {
+                at: at as u16,
+                size: size as u16,
+            };
+        }
+    }
+    GatewayPayload { at: 0, size: 0 }
+}

@@ -28,6 +28,39 @@ for words in '' '--no-such' "--raw --hex $good"; do
     tools/bench $words >/dev/null 2>"$there/told"; [ $? -eq 2 ] || fail "tools/bench $words: not ended with 2"
 done
 
+# The ages of examples/age.txt: the position's bound is 2 * 2 ticks, the ion current's 3 * 1.
+tools/bench examples/age.txt | grep -oE '(from Rx frame|no bound|accepted [0-9]).*' >"$there/ages"
+diff "$there/ages" - <<'END' || fail "examples/age.txt: not these ages"
+from Rx frame 0: 0x000000, 0x000000, failure bit 1
+no bound: not accepted since the opening
+from Rx frame 1: 0x0000, failure bit 1
+no bound: not accepted since the opening
+from Rx frame 0: 0x29839f, 0x0b4c59, failure bit 0
+accepted 1 tick ago; bound: fewer than 4
+from Rx frame 1: 0x1075, failure bit 0
+accepted 1 tick ago; bound: fewer than 3
+from Rx frame 0: 0x29839f, 0x0b4c59, failure bit 0
+accepted 2 ticks ago; bound: fewer than 4
+from Rx frame 1: 0x1075, failure bit 0
+accepted 2 ticks ago; bound: fewer than 3
+from Rx frame 0: 0x29839f, 0x0b4c59, failure bit 0
+accepted 3 ticks ago; bound: fewer than 4
+from Rx frame 1: 0x1071, failure bit 0
+accepted 1 tick ago; bound: fewer than 3
+from Rx frame 0: 0x29839f, 0x0b4c59, failure bit 1
+accepted 4 ticks ago; no bound: its failure bit is 1
+from Rx frame 1: 0x1071, failure bit 0
+accepted 2 ticks ago; bound: fewer than 3
+from Rx frame 0: 0x298438, 0x0b4d18, failure bit 0
+accepted 2 ticks ago; bound: fewer than 4
+from Rx frame 1: 0x109f, failure bit 0
+accepted 1 tick ago; bound: fewer than 3
+from Rx frame 0: 0x298438, 0x0b4d18, failure bit 1
+accepted 3 ticks ago; no bound: its failure bit is 1
+from Rx frame 1: 0x109f, failure bit 0
+accepted 2 ticks ago; bound: fewer than 3
+END
+
 # Terminals that have ASCII alone.
 printf '# na\303\257ve\n0100\nevents\n' >"$there/comment.txt"
 printf '0\303\257\nevents\n' >"$there/word.txt"

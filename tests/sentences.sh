@@ -55,6 +55,18 @@ says 'an ID above 2047 has the place behind all rows of its node' "$head $node $
     'plan ok 3 0 5/rx 1 2/rx 1 3'
 says 'a refused reception and a payload that is too short have no place' "$head $node $here" \
     '10 01 0030 01 2c00000000000000 10 00 0030 09 2c00000000000000 10 00 0020 00 0000000000000000' 'plan ok 1 0 2/rx refused 12/rx refused 13/rx 2'
+# Ticket 8, on a source of reload 2 and prescaler 2, accepted just after a tick that 2 divides; its failure bit is the last of the frame
+source() { printf '%s' "$head $node $tx 04 00 0020 01 02 $1 00 $2 0f 00 05 00 08 06 0000 00"; }
+says 'a fix of r p - 1 ticks ago can have failure bit 0' "$(source 02 01)" "11 $got 11 11 11 12 00" \
+    'plan ok 1 1 1/tick 0/rx 0/tick 0/tick 0/tick 0/take 0 256 2 2c00 0'
+says 'a fix of r p ticks ago has failure bit 1' "$(source 02 01)" "11 $got 11 11 11 11 12 00" \
+    'plan ok 1 1 1/tick 0/rx 0/tick 0/tick 0/tick 0/tick 1/take 0 256 2 2c01 0'
+says 'a fix of (r - 1) p ticks ago has failure bit 0' "$(source 02 01)" "$got 11 11 12 00" 'plan ok 1 1 1/rx 0/tick 0/tick 0/take 0 256 2 2c00 0'
+says 'and one tick later it can have 1' "$(source 02 01)" "$got 11 11 11 12 00" 'plan ok 1 1 1/rx 0/tick 0/tick 0/tick 1/take 0 256 2 2c01 0'
+says 'a fix has no bound where the reload value is 0' "$(source 00 01)" "11 $got 11 11 11 11 12 00" \
+    'plan ok 1 1 1/tick 0/rx 0/tick 0/tick 0/tick 0/tick 0/take 0 256 2 2c00 0'
+says 'a fix has no bound where the indicator is off' "$(source 02 00)" "11 $got 11 11 11 11 12 00" \
+    'plan ok 1 1 1/tick 0/rx 0/tick 0/tick 0/tick 0/tick 1/take 0 256 2 2c00 0'
 # the last of 256 rows: its place is the highest that an acceptance writes
 rows=$(for id in {0..255}; do printf '04 00 %04x 01 01 01 01 00 00 02 ' "$id"; done)
 bytes() { printf " $1%.0s" {1..255}; }

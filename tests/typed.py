@@ -5,7 +5,9 @@ import contextlib
 import importlib.machinery
 import importlib.util
 import io
+import itertools
 import os
+import re
 import sys
 import tempfile
 
@@ -38,6 +40,17 @@ def frame(node, number):
     return f'10 {node:02x} {number:04x} 00 {16 * "0"}'
 
 
+def source(timer, *events):
+    """A source with one signal that goes to Tx frames 0 and 1, which are sent each tick, and events."""
+    sent = 2 * '03 00 0100 02 01 01 01 00 0000000000000000\n'
+    return '\n'.join([f'0100\n0200\n{sent}04 00 0020 01 {timer} 00\n05 00 08\n06 0000 00\n06 0001 00\nevents', *events, ''])
+
+
+def lines(*answers):
+    """A program that answers these lines, whatever it is asked."""
+    return "printf '" + '\\n'.join(answers) + "\\n'"
+
+
 # Three nodes, of which the second has no rows.
 ROWS = '0100\n0200\n0200\n0200\n' + ''.join(f'04 {row} 00 01 00 00 00 00 00\n' for row in ('00 0120', '00 0130', '02 0110')) + 'events'
 NO_ROW = 'not taken: this node has no row for the ID'
@@ -49,6 +62,8 @@ RECEPTION = 'a reception has 13 bytes: kind, node, ID (2), length, data (8) what
 TX = 'a Tx frame has 17 bytes: kind, node, ID (2), size, prescaler, reload, initial timer, flags, initial payload (8)'
 RX = ('an Rx frame has 11 bytes: kind, node, ID (2), size, prescaler, reload, initial timer, failure enable, failure position, '
       'long count')
+ACCEPTED, TICK, TAKE = '10 00 0020 01 5500000000000000', '11', '12 00'
+WATCHED = '02 02 02 01 0f'  # prescaler 2, reload 2, initial timer 2, failure bit 15
 EVENT_KINDS = 'it is 10 (a reception), 11 (a tick) or 12 (a take)'
 
 # Texts that cannot be read: what is told, on one line. Nothing is shown, and the end is 1.
@@ -105,6 +120,17 @@ for text, status, words in [
     (f'{ROWS}\n{frame(1, 0x121)}\n', 0, f'rx 1 0 {NO_ROW} its place: between Rx frame 1, of node 0, and Rx frame 2, of node 2'),
     (f'{ROWS}\n{frame(2, 0x7ff)}\n', 0, f'rx 1 1 {NO_ROW} its place: behind Rx frame 2, ID 0x110'),
     (f'{ROWS}\n{frame(2, 0x800)}\n', 0, f'rx 1 1 {NO_ROW} no row can have it: the greatest ID is 0x7ff'),
+    (source(WATCHED, TICK, TAKE), 0, 'from Rx frame 0: 0x00, failure bit 0 no bound: not accepted since the opening'),
+    (source(WATCHED, TICK, ACCEPTED, TAKE), 0, 'from Rx frame 0: 0x55, failure bit 0 accepted 0 ticks ago; bound: fewer than 4'),
+    (source(WATCHED, TICK, ACCEPTED, TICK, TAKE), 0, 'failure bit 0 accepted 1 tick ago; bound: fewer than 4'),
+    (source(WATCHED, TICK, ACCEPTED, TICK, TICK, ACCEPTED, TICK, TAKE), 0, 'failure bit 0 accepted 1 tick ago; bound: fewer than 4'),
+    (source(WATCHED, TICK, ACCEPTED, TICK, frame(0, 0x20), frame(0, 0x21), TAKE), 0, 'failure bit 0 accepted 1 tick ago; bound: fewer than 4'),
+    (source(WATCHED, TICK, ACCEPTED, *3 * [TICK], TAKE), 0, 'from Rx frame 0: 0x55, failure bit 0 accepted 3 ticks ago; bound: fewer than 4'),
+    (source(WATCHED, TICK, ACCEPTED, *4 * [TICK], TAKE), 0, 'failure bit 1 accepted 4 ticks ago; no bound: its failure bit is 1'),
+    (source(WATCHED, TICK, ACCEPTED, *3 * [TICK], TAKE, TAKE), 0,
+     'from Rx frame 0: 0x55 accepted 3 ticks ago; no bound: failure bit in Tx frame 0'),
+    (source('02 00 02 01 0f', ACCEPTED, *9 * [TICK], TAKE), 0, 'failure bit 0 accepted 9 ticks ago; no bound: its reload is 0'),
+    (source('02 02 02 00 0f', ACCEPTED, *9 * [TICK], TAKE), 0, 'from Rx frame 0: 0x55 accepted 9 ticks ago; no bound: no failure bit'),
     ('0100\nevents\n' + 3 * (30000 * '11' + '\n'), 1, '=> input bad the input passes 65,536 bytes in line 5'),
     (MANY, 1, ' 1041 05 00 01 signal: bit 0 1042 07 unknown kind 07: what follows cannot be read ^^ refused here => plan refused 2 1042 '),
     ('# one\x1b[2J\r\n0100\r\nevents\r\n', 0, '# one\\x1b[2J no record'),
@@ -115,6 +141,8 @@ for text, status, words in [
         sys.exit(f'{text[:60]!r}: ended with {ended}, and {words!r} is not in {shown[-400:]!r} {told}')
 
 # Options and other programs: the end, all that is shown or its last words, and what is told.
+OLD = source(WATCHED, TICK, ACCEPTED, *4 * [TICK], TAKE)
+OLD_LINES = ['plan ok 1 2 1', 'tick 0', 'rx 0', *4 * ['tick 0']]
 GOOD, REFUSED = '0100\nevents\n12 00\n', '0101 07\nevents\n'
 LINE = "sh -c 'echo plan ok 0 0 0; exit 7'"
 for expected, got in [
@@ -136,11 +164,35 @@ for expected, got in [
     ((1, 'refused 9 at record 77: an enabled', ''), run(GOOD, program='echo plan refused 9 77')),
     ((1, 'refused 9 at record 0, line 1: an enabled', ''), run(GOOD, program='echo plan refused 9 0')),
     ((1, 'hello no line of the bench program', ''), run(GOOD, program='echo hello')),
+    ((1, 'plan refused 0 0 no line of the bench program', ''), run(GOOD, program='echo plan refused 0 0')),
+    ((1, '... no line of the bench program', ''), run(GOOD, program=f'echo plan refused 9 {5000 * "1"}')),
     ((0, 'take on node 0 \\x1b[2J take no line of the bench program', ''), run(GOOD, program="printf 'plan ok 0 0 0\\n\\033[2J take\\n'")),
     ((0, 'rx 1 3 no line of the bench program', ''), run(f'{ROWS}\n{frame(0, 0)}\n', program="printf 'plan ok 3 0 3\\nrx 1 3\\n'")),
     ((0, 'rx 1 0 no line of the bench program', ''), run(GOOD, program="printf 'plan ok 0 0 0\\nrx 1 0\\n'")),
+    ((0, 'failure bit 0 accepted 4 ticks ago: breaks the bound, fewer than 4; no proved program answers so', ''),
+     run(OLD, program=lines(*OLD_LINES, 'take 0 256 2 5500 1'))),
+    ((0, 'failure bit 0 accepted 3 ticks ago; bound: fewer than 4', ''),
+     run(OLD, program=lines(*OLD_LINES[:-1], 'tick refused 14', 'take 0 256 2 5500 1'))),
+    ((0, 'failure bit 0 accepted 3 ticks ago; bound: fewer than 4', ''),
+     run(OLD, program=lines(*OLD_LINES[:-1], 'tick 3', 'take 0 256 2 5500 1'))),
+    ((0, 'failure bit 0 no bound: not accepted since the opening', ''),
+     run(OLD, program=lines(*OLD_LINES[:2], 'rx 2', *OLD_LINES[3:], 'take 0 256 2 5500 1'))),
+    *(((0, 'no line of the bench program', ''), run(OLD, program=lines(*OLD_LINES, line)))
+      for line in ('take 0 256 1 55 1', 'take 0 256 2 550 1', 'take 0 256 0 - 1', f'take {5000 * "1"} 256 2 5500 1', 'take 0 256 2 5500')),
 ]:
     (status, words, message), (ended, shown, told) = expected, got
     if ended != status or words not in shown or bool(words) != bool(shown) or message not in told or bool(message) != bool(told):
         sys.exit(f'not {expected}: {got}')
+
+# A silent source, from each phase of its timer: the oldest value with failure bit 0 is one tick below the bound, and the failure bit is 1 after
+# (reload - 1) * prescaler + 1 ticks at the earliest.
+for prescaler, reload in itertools.product((1, 2, 10, 20), (1, 2, 3)):
+    bound, ages = reload * prescaler, {'0': set(), '1': set()}
+    for phase in range(prescaler):
+        after = (bound + 1) * [TICK, TAKE, TAKE]
+        _, shown, _ = run(source(f'{prescaler:02x} {reload:02x} 00 01 0f', *phase * [TICK], TAKE, TAKE, ACCEPTED, *after))
+        for bit, age in re.findall(r'failure bit (.) accepted (\d+) ticks? ago; ', shown):
+            ages[bit].add(int(age))
+    if (max(ages['0'], default=0), min(ages['1']), max(ages['1'])) != (bound - 1, bound - prescaler + 1, bound + 1):
+        sys.exit(f'prescaler {prescaler}, reload {reload}: the ages by failure bit are {ages}')
 print('the typed texts: ok')

@@ -3,6 +3,7 @@ import re
 import textwrap
 from itertools import zip_longest
 
+from view.ages import Ages
 from view.records import EVENTS, RECORDS, Plan, digits_of, records
 from view.refused import cause
 from view.words import NO_LINE, answer_words, bad_event, clean, count, count_timeouts, event_words, reason, record_words
@@ -50,7 +51,7 @@ def show_plan(part, events, answer):
     every = list(records(part.data, RECORDS))
     number_width = max(PLAN[0], len(str(len(every))))
     widths = (number_width, PLAN[1], sum(PLAN[:1] + PLAN[2:]) - number_width)
-    refusal = re.fullmatch(r'plan refused (\d|10) (\d+)', answer)
+    refusal = re.fullmatch(r'plan refused ([1-9]|10) (\d{1,5})', answer)
     notes(part, 0)
     heading(widths, f'{"no":>{number_width}}', 'record', 'in words')
     for number, record in enumerate(every):
@@ -101,7 +102,7 @@ def show_events(part, plan, lines):
         else:
             rows.append([event, line, 1])
     heading(SHORT_ANSWER, 'event', 'in words', 'answer', 'in words')
-    tick, in_a_row = 0, {}
+    tick, in_a_row, ages = 0, {}, Ages(plan)
     for event, line, times in rows:
         notes(part, event.place, '\n' if event.place else '')
         digits = clean(digits_of(event), CUT) + f' ({times} times)' * (times > 1)
@@ -111,7 +112,8 @@ def show_events(part, plan, lines):
             meaning = [f'the run ends here{part.line(event.place)}: {bad_event(event)}']
         else:
             count_timeouts(plan, event, line, in_a_row)
-            meaning = answer_words(plan, event, line, in_a_row)
+            ages.add(event, line, times)
+            meaning = answer_words(plan, event, line, in_a_row, ages)
         if len(line) <= SHORT_ANSWER[2]:
             row(SHORT_ANSWER, digits, words, clean(line), '\n'.join(meaning))
         else:

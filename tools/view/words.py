@@ -11,7 +11,8 @@ ANSWERS = {
     'rx 2': "not taken: shorter than the row's size",
     'take none': 'nothing waits on this node',
 }
-LINE = re.compile(r'\w+ refused 1[1-5]|rx 1 \d+|tick( [0-2])*|take \d+ \d+ [0-8] (-|[0-9a-f]+) \d+')
+TICK = re.compile(r'tick( [0-2])*')
+LINE = re.compile(rf'\w+ refused 1[1-5]|rx 1 \d{{1,3}}|{TICK.pattern}|take \d{{1,3}} \d{{1,4}} [0-8] (-|([0-9a-f]{{2}})+) \d{{1,3}}')
 NO_LINE = 'no line of the bench program'
 MOST_ID = 2047
 
@@ -114,18 +115,23 @@ def bad_event(event):
     return cut_short(event.kind, EVENTS, there) if event.kind in EVENTS else unknown_kind(event.kind, EVENTS)
 
 
+def accepted(plan, event, line):
+    """The number of the Rx frame that the line says was accepted, in a list; an empty one for any other line."""
+    if line != 'rx 0' or event.kind != 16 or not event.fields:
+        return []
+    return [number for number, frame in enumerate(plan.rx) if (frame.node, frame.id) == (event.fields['node'], event.fields['ID'])]
+
+
 def count_timeouts(plan, event, line, in_a_row):
     """Counts how many timeouts of each Rx frame came in a row: its acceptance begins anew."""
-    if line == 'rx 0' and event.kind == 16 and event.fields:
-        for number, frame in enumerate(plan.rx):
-            if (frame.node, frame.id) == (event.fields['node'], event.fields['ID']):
-                in_a_row[number] = 0
-    elif re.fullmatch('tick( [0-2])*', line):
+    for number in accepted(plan, event, line):
+        in_a_row[number] = 0
+    if TICK.fullmatch(line):
         for number, byte in enumerate(line.split()[1:]):
             in_a_row[number] = in_a_row.get(number, 0) + (byte != '0')
 
 
-def answer_words(plan, event, line, in_a_row):
+def answer_words(plan, event, line, in_a_row, ages):
     """A line of the program that answers an event, as a list of lines."""
     if line in ANSWERS:
         return [ANSWERS[line]]
@@ -139,8 +145,11 @@ def answer_words(plan, event, line, in_a_row):
     if word == 'tick':
         return list(timeouts(plan, rest, in_a_row)) or ['no timeout']
     tx, id_, _, payload, waiting = rest
+    payload, owners = bytes.fromhex(payload.strip('-')), [owner for owner in plan.owners if owner.tx == int(tx)]
+    if any(owner.position + owner.size > 8 * len(payload) for owner in owners):
+        return [NO_LINE]
     after = {'0': 'none waits', '1': '1 waits'}.get(waiting, f'{waiting} wait')
-    return [f'Tx frame {tx} (ID 0x{int(id_):03x}), {after} after it', *values_in(plan, int(tx), bytes.fromhex(payload.strip('-')))]
+    return [f'Tx frame {tx} (ID 0x{int(id_):03x}), {after} after it', *values_in(plan.order, owners, payload, ages)]
 
 
 def no_row(plan, event, place):
@@ -179,13 +188,15 @@ def timeouts(plan, report, in_a_row):
                 yield f'    {in_a_row[number]} in a row'
 
 
-def values_in(plan, tx, payload):
-    """What the payload of a Tx frame holds, by the Rx frames that it came from."""
-    whole = int.from_bytes(payload, plan.order)
-    for rx, owners in groupby((owner for owner in plan.owners if owner.tx == tx), lambda owner: owner.rx):
-        values = []
-        for owner in sorted(owners, key=lambda owner: owner.failure):  # the failure bit last
-            shift = owner.position if plan.order == 'little' else 8 * len(payload) - owner.position - owner.size
+def values_in(order, owners, payload, ages):
+    """What a payload holds in the bits of its owners, by the Rx frames that it came from, and how old that is."""
+    whole = int.from_bytes(payload, order)
+    for rx, own in groupby(owners, lambda owner: owner.rx):
+        values, failure = [], None
+        for owner in sorted(own, key=lambda owner: owner.failure):  # the failure bit last
+            shift = owner.position if order == 'little' else 8 * len(payload) - owner.position - owner.size
             value = whole >> shift & (1 << owner.size) - 1
             values.append(('failure bit ' if owner.failure else '0x') + f'{value:0{(owner.size + 3) // 4}x}')
+            failure = value if owner.failure else None
         yield f'from Rx frame {rx}: ' + ', '.join(values)
+        yield f'  {ages.words(rx, failure)}'

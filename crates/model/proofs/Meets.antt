@@ -62,17 +62,21 @@ meets-closed room =
 
 -- ---- the calls on an open plan
 
-meets-runs : (room : ℕ) (plan : List ℕ) → Unrefused plan → Runs (said plan) (inside plan (theModel room))
-unfolding theModel answerFrom nextFrom inside stateIn running
-meets-runs room plan u =
+pub runs : (plan : List ℕ) → GoodPlan plan → Runs (said plan) (running (said plan))
+unfolding running
+runs plan good =
     let p = said plan in
-    let l = lawful plan (good-plan plan u) in
+    let l = lawful plan good in
     record {
       reception = meets-reception p l;
       tick = λ s h. meets-tick p l s h;
       take = λ s h. meets-take p s h;
       fullness = λ s h. meets-fullness p s;
     }
+
+meets-runs : (room : ℕ) (plan : List ℕ) → Unrefused plan → Runs (said plan) (inside plan (theModel room))
+unfolding theModel answerFrom nextFrom inside stateIn running
+meets-runs room plan u = runs plan (good-plan plan u)
 
 pub model-meets : ModelMeets
 unfolding theModel nextFrom inside stateIn

@@ -31,7 +31,7 @@ unfolding lowered
 lowered-falls reload old h =
     by-eqb (λ x. x + 1 ≡ old) old 0 _ _ (λ e. omega arith) (λ d. by-eqb (λ x. x + 1 ≡ old) old 1 _ _ (λ e. omega arith) (λ e. omega arith))
 
-falls : {H : Type 0} (reload old new : ℕ) → ((H → ⊥) → new ≡ old) → (H → new ≡ lowered reload old) → Falls H reload old new
+pub falls : {H : Type 0} (reload old new : ℕ) → ((H → ⊥) → new ≡ old) → (H → new ≡ lowered reload old) → Falls H reload old new
 unfolding lowered pick
 falls reload old new f g =
     record {

@@ -6,11 +6,16 @@ use Prim.Native.Nat.{ℕ, _≤_, _<_}
 use native.Mathlib.Omega.{arith}
 use native.Mathlib.Decide.{decLt}
 use lib.ListN.{length}
+use Rattle.base.proofs.Apart.{differ}
+use Rattle.plan.specs.Rows.{Claim}
+use Rattle.answers.specs.declared.Refusal.the-variants.{NoNode, LongPayload}
+use Rattle.answers.specs.declared.Received.{Received}
+use Rattle.answers.specs.declared.Received.the-variants.{Accepted, NoRow, TooShort, Refused}
 use Rattle.model.specs.Plan.{Plan, rowIn}
 use Rattle.model.specs.State.{State, queueOn}
-use Rattle.model.specs.Calls.{Call, reception, tick, take, fullness, Running}
-use Rattle.model.specs.Words.{Names, Shape}
-use Rattle.model.specs.ReceptionRules.{Accepts, ReceptionRules}
+use Rattle.model.specs.Calls.{Call, reception, tick, take, fullness, received, Running}
+use Rattle.model.specs.Words.{Names, Shape, Answers}
+use Rattle.model.specs.ReceptionRules.{Aside, InOrder, Accepts, ReceptionRules}
 use Rattle.model.specs.TickRules.{Done}
 use Rattle.model.specs.TakeRules.{Takes, TakeRules}
 use Rattle.model.specs.Rules.{Runs}
@@ -22,26 +27,39 @@ abbrev pub TickOutcome : Plan → Running → State → List ℕ → Type 0
 TickOutcome p g s report =
     ((g .next s (tick report) ≡ s) × (length report < length (p .rows))) ⊎ ((length (p .rows) ≤ length report) × Done p g s report)
 
+-- what the destinations of an acceptance leave
+pub order-aside : (p : Plan) (payload : List ℕ) (cs : List Claim) (s x : State) → InOrder p payload cs s x → Aside s x
+unfolding InOrder
+order-aside p payload [] s x e = rw e (record { number = refl; rxTimers = refl; longs = refl })
+order-aside p payload (c ∷ cs) s x (m, a, b) =
+    let more = order-aside p payload cs m x b in
+    let here = a .aside in
+    record { number = more .number ∙ here .number; rxTimers = more .rxTimers ∙ here .rxTimers; longs = more .longs ∙ here .longs }
+
 module _ (p : Plan) (g : Running) (meets : Runs p g) (s : State) (k : Shape p s) where
   abbrev Left : Call → Type 0
   Left c = g .next s c ≡ s
 
-  pub reception-outcome : (n i : ℕ) (payload : List ℕ) → Left (reception n i payload) ⊎ ((r : ℕ) × Names p n i r × Accepts p g s n i payload r)
+  -- a reception is accepted for the Rx frame that it names, or it is answered otherwise and leaves the state
+  abbrev pub ReceptionOutcome : ℕ → ℕ → List ℕ → Type 0
+  ReceptionOutcome n i payload =
+      ((x : Received) × (x ≡ Accepted → ⊥) × Answers g s (reception n i payload) (received x))
+      ⊎ ((r : ℕ) × Names p n i r × Accepts p g s n i payload r)
+
+  pub reception-outcome : (n i : ℕ) (payload : List ℕ) → ReceptionOutcome n i payload
   reception-outcome n i payload = go (decLt n (p .nodes)) (decLt 8 (length payload)) (named p g g s k n i)
     where
       a : ReceptionRules p g s n i payload
       a = meets .reception s k n i payload
 
-      row : n < p .nodes → length payload ≤ 8 → (r : ℕ) → Names p n i r → Dec (length payload < rowIn p r .frame .size)
-          → Left (reception n i payload) ⊎ ((r : ℕ) × Names p n i r × Accepts p g s n i payload r)
-      row l m r x (yes d) = inl (a .short l m r x d .stays)
+      row : n < p .nodes → length payload ≤ 8 → (r : ℕ) → Names p n i r → Dec (length payload < rowIn p r .frame .size) → ReceptionOutcome n i payload
+      row l m r x (yes d) = inl (TooShort, (λ e. differ cc), a .short l m r x d)
       row l m r x (no d) = inr (r, x, a .accepted l m r x (omega arith))
 
-      go : Dec (n < p .nodes) → Dec (8 < length payload) → ((r : ℕ) × Names p n i r) ⊎ ((r : ℕ) → Names p n i r → ⊥)
-          → Left (reception n i payload) ⊎ ((r : ℕ) × Names p n i r × Accepts p g s n i payload r)
-      go (no d) w v = inl (a .refused (omega arith) .stays)
-      go (yes l) (yes m) v = inl (a .long l m .stays)
-      go (yes l) (no m) (inr f) = inl (a .noRow l (omega arith) f .answers .stays)
+      go : Dec (n < p .nodes) → Dec (8 < length payload) → ((r : ℕ) × Names p n i r) ⊎ ((r : ℕ) → Names p n i r → ⊥) → ReceptionOutcome n i payload
+      go (no d) w v = inl (Refused NoNode, (λ e. differ cc), a .refused (omega arith))
+      go (yes l) (yes m) v = inl (Refused LongPayload, (λ e. differ cc), a .long l m)
+      go (yes l) (no m) (inr f) = let x = a .noRow l (omega arith) f in inl (NoRow (length (x .rows)), (λ e. differ cc), x .answers)
       go (yes l) (no m) (inl (r, x)) = row l (omega arith) r x (decLt _ _)
 
   pub tick-outcome : (report : List ℕ) → TickOutcome p g s report
@@ -79,7 +97,7 @@ module _ (p : Plan) (g : Running) (meets : Runs p g) (s : State) (k : Shape p s)
 
   pub shaped : (c : Call) → Shape p (g .next s c)
   shaped (reception n i payload) =
-      ⊎-elim same
+      ⊎-elim (λ (x, d, w). same (w .stays))
       (λ (r, x, w). order-shape p payload (rowIn p r .claims) (w .again) _ (restart-shape p r s (w .again) k (w .restarts)) (w .puts))
       (reception-outcome n i payload)
   shaped (tick report) = ⊎-elim (λ e. same (e .0)) (λ w. w .1 .ticks .shape) (tick-outcome report)

@@ -6,16 +6,15 @@ use Prim.Native.Nat.{ℕ, _+_, _%_, _<_}
 use native.Mathlib.Omega.{arith}
 use native.Mathlib.Decide.{ℕ-discrete}
 use lib.ListN.{length, getD}
-use Rattle.plan.specs.Rows.{Claim}
 use Rattle.answers.specs.declared.Ticked.the-variants.{Done}
 use Rattle.model.specs.Plan.{Plan, rowIn}
 use Rattle.model.specs.State.{State}
 use Rattle.model.specs.Calls.{Call, reception, tick, take, fullness, ticked, Running}
 use Rattle.model.specs.Words.{Names, Shape}
-use Rattle.model.specs.ReceptionRules.{InOrder, Accepts}
+use Rattle.model.specs.ReceptionRules.{Accepts}
 use Rattle.model.specs.Rules.{Runs}
 use Rattle.model.specs.Timers.{stateLeft, Throughout, handlingOf, handlings, Leaves, Silent, RxWaits, RxExpiry}
-use Rattle.model.proofs.Outcomes.{TickOutcome, reception-outcome, tick-outcome, take-outcome, fullness-outcome, shaped}
+use Rattle.model.proofs.Outcomes.{TickOutcome, reception-outcome, tick-outcome, take-outcome, fullness-outcome, order-aside, shaped}
 use Rattle.model.proofs.Handlings.{one-given, not-refused, handled-once, undone, fallen}
 
 module _ (p : Plan) (g : Running) (meets : Runs p g) where
@@ -26,20 +25,17 @@ module _ (p : Plan) (g : Running) (meets : Runs p g) where
     abbrev by : State → Call → ℕ
     by = handlingOf p (rowIn p r .frame .prescaler)
 
-    order-rx : (payload : List ℕ) (cs : List Claim) (s x : State) → InOrder p payload cs s x → x .rxTimers ≡ s .rxTimers
-    unfolding InOrder
-    order-rx payload [] s x e = ap (λ z. z .rxTimers) e
-    order-rx payload (c ∷ cs) s x (m, a, b) = order-rx payload cs m x b ∙ a .aside .rxTimers
-
     step-rx : (s : State) → Shape p s → (c : Call) → Leaves p g r s c → by s c < held s → held (g .next s c) + by s c ≡ held s
     unfolding Leaves handlingOf
     step-rx s k (reception n i payload) f m =
-        ⊎-elim (λ e. rw e (omega arith)) (λ (q, x, w). accepted q x w (ℕ-discrete r q)) (reception-outcome p g meets s k n i payload)
+        ⊎-elim (λ (x, d, w). rw (w .stays) (omega arith)) (λ (q, x, w). accepted q x w (ℕ-discrete r q)) (reception-outcome p g meets s k n i payload)
       where
         accepted : (q : ℕ) → Names p n i q → Accepts p g s n i payload q → Dec (r ≡ q)
             → held (g .next s (reception n i payload)) + 0 ≡ held s
         accepted q x w (yes e) = absurd (f (w .answer) (rw e x))
-        accepted q x w (no d) = omega (arith, ap (λ z. getD z r 0) (order-rx payload (rowIn p q .claims) (w .again) _ (w .puts)), w .restarts .rxTimers .others r d)
+        accepted q x w (no d) =
+            let same = order-aside p payload (rowIn p q .claims) (w .again) _ (w .puts) .rxTimers in
+            omega (arith, ap (λ z. getD z r 0) same, w .restarts .rxTimers .others r d)
     step-rx s k (tick report) f m = go (tick-outcome p g meets s k report)
       where
         go : TickOutcome p g s report → held (g .next s (tick report)) + by s (tick report) ≡ held s

@@ -83,7 +83,7 @@ module _ (p : Plan) (g : Running) (meets : Runs p g) where
         → count (g .next s c) + handlingOf p (txIn p t .prescaler) s c ≡ count s
     unfolding Spares handlingOf
     step-tx s k (reception n i payload) f m =
-        ⊎-elim (λ e. rw e (omega arith))
+        ⊎-elim (λ (x, d, w). rw (w .stays) (omega arith))
         (λ (q, x, w).
         let before : w .again .queues ≡ s .queues = w .restarts .queues in
         let same = order-tx payload (rowIn p q .claims) (w .again) _ (w .puts) (λ y. rw before (f y)) in

@@ -36,7 +36,7 @@ impl Owners {
         (position..position + size).all(|bit| !self.owned[tx][bit])
     }
 
-    pub fn own(&mut self, tx: usize, position: usize, size: usize) {
+    fn own(&mut self, tx: usize, position: usize, size: usize) {
         for bit in position..position + size {
             self.owned[tx][bit] = true;
         }
@@ -44,7 +44,7 @@ impl Owners {
 
     /// A free place in the Tx frame: the first, the last or any, so that many
     /// destinations touch each other and many cross bytes.
-    pub fn free_place(&self, rng: &mut Rng, tx: usize, tx_size: u8, size: usize) -> Option<usize> {
+    fn free_place(&self, rng: &mut Rng, tx: usize, tx_size: u8, size: usize) -> Option<usize> {
         let bits = 8 * usize::from(tx_size);
         let free: Vec<usize> = (0..=63)
             .filter(|p| p + size <= bits && self.is_free(tx, *p, size))
@@ -55,6 +55,13 @@ impl Owners {
             _ if free.is_empty() => None,
             _ => Some(rng.pick(&free)),
         }
+    }
+
+    /// A free place, which then has an owner.
+    pub fn place(&mut self, rng: &mut Rng, tx: usize, tx_size: u8, size: usize) -> Option<usize> {
+        let position = self.free_place(rng, tx, tx_size, size)?;
+        self.own(tx, position, size);
+        Some(position)
     }
 }
 
@@ -108,7 +115,7 @@ fn tx_frame(rng: &mut Rng, nodes: usize) -> Tx {
 }
 
 /// Rising (node, ID) keys: IDs near each other, at the ends, or anywhere.
-fn keys(rng: &mut Rng, nodes: usize, count: usize) -> Keys {
+pub fn keys(rng: &mut Rng, nodes: usize, count: usize) -> Keys {
     let mut keys = Keys::new();
     let base = rng.below(2048);
     let style = rng.below(4);
@@ -214,17 +221,15 @@ pub fn add_destination(rng: &mut Rng, txs: &[Tx], owners: &mut Owners, rx: &mut 
             return;
         }
         let tx = rng.below(txs.len());
-        let Some(position) = owners.free_place(rng, tx, txs[tx].size, size) else {
+        let Some(position) = owners.place(rng, tx, txs[tx].size, size) else {
             continue;
         };
-        owners.own(tx, position, size);
         signal.destinations.push(Destination {
             tx: tx as u16,
             position: position as u8,
         });
         if is_first_signal && signal.destinations.len() == 1 && !rng.once_in(3) {
-            if let Some(bit) = owners.free_place(rng, tx, txs[tx].size, 1) {
-                owners.own(tx, bit, 1);
+            if let Some(bit) = owners.place(rng, tx, txs[tx].size, 1) {
                 rx.enable = 1;
                 rx.failure_position = bit as u8;
             }

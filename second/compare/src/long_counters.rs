@@ -11,7 +11,7 @@ use second::gateway::Answer;
 use second::plan::Plan;
 use second::refusal::Refusal;
 
-use crate::tally::{after_restart_row, after_rx_0_row, despite_row, Tally};
+use crate::tally::{after_restart_row, after_rx_0_row, despite_row, Tally, PASSING_BY};
 
 pub struct LongCounters {
     rows: Vec<LongCounter>,
@@ -51,8 +51,6 @@ impl LongCounters {
         }
     }
 
-    /// A reception that is not accepted concerns the row it names; if it names
-    /// none, every row.
     pub fn reception(
         &mut self,
         tally: &mut Tally,
@@ -62,14 +60,10 @@ impl LongCounters {
     ) {
         for row in &mut self.rows {
             let is_named = (row.node, row.id) == (node, id);
-            match answer {
-                Ok(Answer::Accepted) if is_named => row.accept(tally),
-                Ok(Answer::Accepted) => row.pass_by("rx 0 of another row"),
-                Ok(Answer::NoMatchingRow { .. }) => row.pass_by("rx 1"),
-                Ok(Answer::TooShort) if is_named => row.pass_by("rx 2"),
-                Err(Refusal::NoSuchNode) => row.pass_by("rx refused 12"),
-                Err(Refusal::PayloadTooLong) if is_named => row.pass_by("rx refused 13"),
-                _ => {}
+            match passing_by(is_named, answer) {
+                Some(what) => row.pass_by(what),
+                None if is_named && answer == Ok(Answer::Accepted) => row.accept(tally),
+                None => {}
             }
         }
     }
@@ -82,6 +76,21 @@ impl LongCounters {
                 _ => row.expire(tally, true),
             }
         }
+    }
+}
+
+/// What a reception is to a row that does not accept it, by its name in
+/// `PASSING_BY`. One that is not accepted concerns the row it names; if it names
+/// none, every row.
+pub fn passing_by(is_named: bool, answer: Result<Answer, Refusal>) -> Option<&'static str> {
+    let [another_row, stranger, too_short, no_such_node, too_long] = PASSING_BY;
+    match answer {
+        Ok(Answer::Accepted) if !is_named => Some(another_row),
+        Ok(Answer::NoMatchingRow { .. }) => Some(stranger),
+        Ok(Answer::TooShort) if is_named => Some(too_short),
+        Err(Refusal::NoSuchNode) => Some(no_such_node),
+        Err(Refusal::PayloadTooLong) if is_named => Some(too_long),
+        _ => None,
     }
 }
 

@@ -6,11 +6,12 @@
 
 use second::bench::{handed_on, read_event, split_input, Event};
 use second::bits::Order;
-use second::gateway::{Answer, Gateway};
+use second::gateway::{Answer, Gateway, Taken};
 use second::parse::{body_length, two_byte_number, DESTINATION, NODE, RX_FRAME, SIGNAL, TX_FRAME};
 use second::plan::{Plan, Signal};
 use second::refusal::{PlanRefusal, Refusal};
 
+use crate::age_rows::AgeRows;
 use crate::long_counters::LongCounters;
 use crate::shapes::Case;
 use crate::tally::{made_row, past_row, Tally, COPIED, INPUT_LENGTHS, KINDS, LIMITS, PRESCALERS};
@@ -83,7 +84,9 @@ impl Tally {
     }
 
     fn events(&mut self, mut gateway: Gateway, events: &[u8]) {
-        let mut long_counters = LongCounters::new(gateway.plan());
+        let plan = gateway.plan().clone();
+        let mut long_counters = LongCounters::new(&plan);
+        let mut age_rows = AgeRows::new(&plan);
         let mut ticks = 0;
         let mut rest = events;
         while !rest.is_empty() {
@@ -103,13 +106,19 @@ impl Tally {
                 } => {
                     let answer = self.reception(&mut gateway, node, id, length, &data);
                     long_counters.reception(self, node, id, answer);
+                    age_rows.reception(node, id, data, answer);
                 }
                 Event::Tick => {
                     ticks += 1;
                     let report = self.tick(&mut gateway);
                     long_counters.tick(self, &report);
+                    age_rows.tick();
                 }
-                Event::Take { node } => self.take(&mut gateway, node),
+                Event::Take { node } => {
+                    if let Some(taken) = self.take(&mut gateway, node) {
+                        age_rows.take(self, &taken);
+                    }
+                }
             }
             rest = after;
         }
@@ -236,8 +245,10 @@ impl Tally {
         report
     }
 
-    fn take(&mut self, gateway: &mut Gateway, node: u8) {
-        match gateway.take(node) {
+    /// Answers what was taken.
+    fn take(&mut self, gateway: &mut Gateway, node: u8) -> Option<Taken> {
+        let answer = gateway.take(node);
+        match &answer {
             Err(refusal) => self.met(&format!("take refused {}", refusal.number())),
             Ok(None) => self.met("take none"),
             Ok(Some(taken)) => {
@@ -248,6 +259,7 @@ impl Tally {
                 }
             }
         }
+        answer.ok().flatten()
     }
 }
 

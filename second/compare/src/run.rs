@@ -7,13 +7,14 @@ use std::sync::{Mutex, PoisonError};
 use std::thread;
 
 use crate::ask::ask;
+use crate::lines::too_old;
 use crate::shapes::{Case, Shapes};
 use crate::tally::Tally;
 
 /// After so many differences the run stops.
 const MOST_DIFFERENCES: usize = 5;
 
-/// A case on which the two programs differ.
+/// A case on which the two programs differ, or the command's fix is too old.
 pub struct Difference {
     pub case: Case,
     pub what: String,
@@ -82,14 +83,22 @@ pub fn one(shapes: &Shapes, case_seed: u64, command: &[String]) -> Outcome {
     }
 }
 
-/// How the command's output differs from the second program's, if it does.
+/// What is wrong with the command's output, if anything.
 fn differs(input: &[u8], command: &[String]) -> Option<String> {
     let expected = second::run(input).into_bytes();
     match ask(command, input) {
         Err(why) => Some(why),
-        Ok(output) if output == expected => None,
-        Ok(output) => Some(first_difference(&expected, &output)),
+        Ok(output) => faults(input, &expected, &output),
     }
+}
+
+/// How the output differs from the second program's, and where it breaks
+/// Ticket 8's sentence, also if the second program breaks it too.
+pub fn faults(input: &[u8], expected: &[u8], output: &[u8]) -> Option<String> {
+    let difference = (output != expected).then(|| first_difference(expected, output));
+    let faults = [difference, too_old(input, output)];
+    let faults: Vec<String> = faults.into_iter().flatten().collect();
+    (!faults.is_empty()).then(|| faults.concat())
 }
 
 /// The first line that differs, with its number from 1.

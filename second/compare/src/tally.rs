@@ -1,6 +1,6 @@
 //! What the cases met: a table of counts, each of which must be above 0, and
 //! of pairs, all of which must be met: the positions and sizes of signals
-//! copied, and the places of strangers.
+//! copied, the places of strangers, and the sources at their oldest.
 
 use std::collections::{BTreeMap, BTreeSet};
 
@@ -8,7 +8,8 @@ use crate::shapes::Shapes;
 
 pub struct Tally {
     counts: BTreeMap<String, u64>,
-    /// The pairs of each row that counts pairs: those of `COPIED` and `PLACES`.
+    /// The pairs of each row that counts pairs: those of `COPIED`, `PLACES` and
+    /// `OLDEST`.
     pairs: BTreeMap<&'static str, BTreeSet<(usize, usize)>>,
 }
 
@@ -87,6 +88,35 @@ pub const OTHER_COUNTS: [&str; 6] = [
     "the smaller IDs of Tx frames",
 ];
 
+/// Receptions that a row does not accept.
+pub const PASSING_BY: [&str; 5] = [
+    "rx 0 of another row",
+    "rx 1",
+    "rx 2",
+    "rx refused 12",
+    "rx refused 13",
+];
+
+/// Reloads whose bound r times p is met to the tick, for each prescaler: both
+/// ends, both sides of where r passes 127 and 10 r and 20 r pass 255, and some
+/// between.
+pub const RELOADS: [u8; 16] = [
+    1, 2, 3, 5, 8, 12, 13, 25, 26, 64, 100, 127, 128, 200, 254, 255,
+];
+
+/// "255 times 20 is 5,100": no bound r times p is greater.
+pub const GREATEST_BOUND: u64 = 5_100;
+
+/// The rows that count pairs of a source whose failure bit was seen to be set by
+/// a tick, each pair once, and how many pairs there are: the prescaler and the
+/// reload, where that tick made the age r times p; and the prescaler and the
+/// phase, which is what the number of the tick after the acceptance leaves over
+/// if the prescaler divides it.
+pub const OLDEST: [(&str, u64); 2] = [
+    ("prescalers and reloads at r p ticks, of 64", 64),
+    ("prescalers and phases at an expiry, of 33", 33),
+];
+
 /// The sections of the table: a heading, and the rows in their order.
 fn sections() -> Vec<(&'static str, Vec<String>)> {
     vec![
@@ -97,6 +127,7 @@ fn sections() -> Vec<(&'static str, Vec<String>)> {
         ("events", events()),
         ("long counters", long_counters()),
         ("places of strangers", places()),
+        ("age of a fix, reload r and prescaler p", ages()),
         (
             "pairs of a position and a size of a signal, of 2080",
             copied(),
@@ -194,15 +225,8 @@ pub fn long_counters() -> Vec<String> {
     ]
     .map(String::from)
     .to_vec();
-    let no_restarts = [
-        "a tick without an expiry",
-        "rx 0 of another row",
-        "rx 1",
-        "rx 2",
-        "rx refused 12",
-        "rx refused 13",
-    ];
-    rows.extend(no_restarts.map(despite_row));
+    rows.push(despite_row("a tick without an expiry"));
+    rows.extend(PASSING_BY.map(despite_row));
     rows.extend([0, 1].map(after_rx_0_row));
     rows.extend((2..=15).map(after_restart_row));
     rows
@@ -219,6 +243,31 @@ pub fn places() -> Vec<String> {
     rows.extend(others.map(String::from));
     rows.extend(OTHER_COUNTS.map(unlike_row));
     rows.extend(PLACES.map(|(row, _)| row.to_string()));
+    rows
+}
+
+/// Ticket 8: "fewer than r times p unrefused ticks have passed since the last
+/// acceptance, and the frame's bits from that source are those of that
+/// acceptance."
+pub fn ages() -> Vec<String> {
+    let mut rows = PRESCALERS.map(last_bit_0_row).to_vec();
+    rows.extend(PRESCALERS.map(first_bit_1_row));
+    rows.extend(PASSING_BY.map(when_due_row));
+    rows.push(kept_row("a take"));
+    rows.extend(PASSING_BY.map(kept_row));
+    let others = [
+        "fixes with bit 0",
+        "bits 0 of unlike bounds in a frame",
+        "bit 0 past the bound of another source",
+        "past the bound, failure bit elsewhere",
+        "5100 ticks old, indicator off",
+        "5100 ticks old, reload 0",
+        "never accepted, bit 0 after r p ticks",
+        "bit 0, changed by the acceptance, big",
+        "bit 0, changed by the acceptance, little",
+    ];
+    rows.extend(others.map(String::from));
+    rows.extend(OLDEST.map(|(row, _)| row.to_string()));
     rows
 }
 
@@ -250,6 +299,7 @@ pub fn made_row(shape: &str) -> String {
         Some(("copies", _)) => "signals of every position and size",
         Some(("restarts", _)) => "receptions between expiries of a long count",
         Some(("places", _)) => "strangers at every place of every node",
+        Some(("ages", _)) => "takes around the expiry of a source",
         Some(("field", _)) => "a field at or past the end of its range",
         Some(("follower", _)) => "a missing or bad follower",
         Some(("owners", _)) => "bits with two owners, or nearly",
@@ -268,7 +318,8 @@ fn rows() -> Vec<String> {
 /// destination is left to chance.
 fn least_count(row: &str) -> u64 {
     let copied = COPIED.iter().flat_map(|[from, to, _]| [from, to]);
-    let mut all_pairs = copied.map(|side| (*side, PAIRS)).chain(PLACES);
+    let copied = copied.map(|side| (*side, PAIRS));
+    let mut all_pairs = copied.chain(PLACES).chain(OLDEST);
     let of_row = all_pairs.find(|(name, _)| *name == row);
     of_row.map_or(1, |(_, pairs)| pairs)
 }
@@ -281,6 +332,27 @@ pub fn past_row(what: &str, limit: usize) -> String {
 /// expiries.
 pub fn despite_row(what: &str) -> String {
     format!("long timeouts despite {what}")
+}
+
+/// For a take at the oldest age that a fix can have.
+pub fn last_bit_0_row(prescaler: u8) -> String {
+    format!("bit 0 at r p - 1 ticks, prescaler {prescaler}")
+}
+
+/// For the take after the next tick.
+pub fn first_bit_1_row(prescaler: u8) -> String {
+    format!("bit 1 at r p ticks, prescaler {prescaler}")
+}
+
+/// For a failure bit that was set when due although this came while the timer
+/// was under way.
+pub fn when_due_row(what: &str) -> String {
+    format!("bit 1 when due despite {what}")
+}
+
+/// For a failure bit that was set, and still is after this.
+pub fn kept_row(what: &str) -> String {
+    format!("bit 1 kept despite {what}")
 }
 
 /// For a place that this count would not give.
@@ -322,7 +394,8 @@ impl Tally {
         }
     }
 
-    /// Counts the pair for a row of `COPIED` or `PLACES`, where it counts once.
+    /// Counts the pair for a row of `COPIED`, `PLACES` or `OLDEST`, where it
+    /// counts once.
     pub fn met_pair(&mut self, row: &'static str, one: usize, other: usize) {
         self.pairs.entry(row).or_default().insert((one, other));
     }

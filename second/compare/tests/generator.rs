@@ -1,41 +1,16 @@
 //! The generator and the table: every row is met, cases can be made again from
 //! their seeds, and the second program answers every input without a panic.
 
+mod common;
+
 use std::collections::BTreeSet;
 
+use common::{assert_met_by, case_of, cases, met_of, once, tally_of, Add, OTHERS};
 use compare::events::Events;
 use compare::rng::Rng;
-use compare::shapes::{Case, Shapes};
+use compare::shapes::Shapes;
 use compare::spec::{Destination, Plan, Rx, Signal, Tx};
 use compare::tally::{long_counters, places, Tally, COPIED, PLACES, SIDES};
-
-/// What these cases meet.
-fn tally_of(cases: impl IntoIterator<Item = Case>) -> Tally {
-    let mut tally = Tally::new();
-    for case in cases {
-        tally.observe(&case);
-    }
-    tally
-}
-
-/// The cases of these indices in a run.
-fn cases<'s>(
-    shapes: &'s Shapes,
-    seed: u64,
-    indices: impl IntoIterator<Item = usize> + 's,
-) -> impl Iterator<Item = Case> + 's {
-    let indices = indices.into_iter();
-    indices.map(move |index| shapes.case(shapes.case_seed(seed, index as u64)))
-}
-
-/// A case of this plan and these events.
-fn case_of(plan: &Plan, events: &Events) -> Case {
-    Case {
-        seed: 0,
-        shape: "small plan".to_string(),
-        input: plan.input(&events.bytes),
-    }
-}
 
 #[test]
 fn a_thousand_cases_meet_every_row_for_any_seed() {
@@ -104,20 +79,6 @@ fn pairs_count_once_and_where_a_reception_is_accepted() {
     assert!(!never_met.contains(&to_another_offset));
 }
 
-/// In each round the shapes whose names begin so meet these rows without the
-/// others.
-fn assert_met_by(start: &str, rows: &[String]) {
-    let shapes = Shapes::all();
-    let names: Vec<&str> = shapes.names().collect();
-    let is_own = |index: &usize| names[*index].starts_with(start);
-    for seed in 0..100 {
-        let round = (0..shapes.count()).filter(is_own);
-        let mut never_met = tally_of(cases(&shapes, seed, round)).never_met();
-        never_met.retain(|row| rows.contains(row));
-        assert_eq!(never_met, Vec::<String>::new(), "seed {seed}");
-    }
-}
-
 #[test]
 fn a_round_meets_the_rows_of_the_long_counters_by_its_own_shapes() {
     assert_met_by("restarts: ", &long_counters());
@@ -138,19 +99,7 @@ fn expiring(reload: u8, long_count: u8) -> Rx {
     }
 }
 
-type Add = fn(&mut Events);
-
 const ACCEPTED: Add = |events| events.reception(0, 7, 1, [0; 8]);
-
-/// What is no restart of row (0, 7) beside row (0, 9), with its part of a row
-/// of the table.
-const OTHERS: [(&str, Add); 5] = [
-    ("rx 0 of another row", |e| e.reception(0, 9, 1, [0; 8])),
-    ("rx 1", |e| e.reception(0, 6, 1, [0; 8])),
-    ("rx 2", |e| e.reception(0, 7, 0, [0; 8])),
-    ("rx refused 12", |e| e.reception(1, 7, 1, [0; 8])),
-    ("rx refused 13", |e| e.reception(0, 7, 9, [0; 8])),
-];
 
 /// The rows of the long counters that are met, with their counts, by ticks, the
 /// added event and ticks, on a plan of this row and a stopped one.
@@ -165,17 +114,6 @@ fn met_around(row: Rx, before: usize, add: Add, after: usize) -> Vec<(String, u6
     add(&mut events);
     events.ticks(after);
     met_of(long_counters(), &tally_of([case_of(&plan, &events)]))
-}
-
-/// Those of the rows that are met, with their counts.
-fn met_of(rows: Vec<String>, tally: &Tally) -> Vec<(String, u64)> {
-    let counted = rows.into_iter().map(|row| (tally.count(&row), row));
-    let met = counted.filter(|(count, _)| *count > 0);
-    met.map(|(count, row)| (row, count)).collect()
-}
-
-fn once(rows: &[&str]) -> Vec<(String, u64)> {
-    rows.iter().map(|row| (row.to_string(), 1)).collect()
 }
 
 #[test]

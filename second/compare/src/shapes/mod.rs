@@ -5,6 +5,7 @@
 //! the random choices inside the shape. So each shape comes once in a round of
 //! the list, whatever the seed of the run.
 
+mod ages;
 mod copies;
 mod fields;
 mod followers;
@@ -56,6 +57,7 @@ impl Shapes {
         special.extend(copies::shapes());
         special.extend(restarts::shapes());
         special.extend(places::shapes());
+        special.extend(ages::shapes());
         special.extend(limits::shapes());
         special.extend(fields::shapes());
         special.extend(followers::shapes());

@@ -9,7 +9,7 @@ use crate::spec::{Plan, Rx};
 
 /// What comes between two expiries of a row and is no restart.
 #[derive(Clone, Copy)]
-enum Other {
+pub enum Other {
     AnotherRow,
     Stranger,
     TooShort,
@@ -17,7 +17,7 @@ enum Other {
     TooLong,
 }
 
-const OTHERS: [Other; 5] = [
+pub const OTHERS: [Other; 5] = [
     Other::AnotherRow,
     Other::Stranger,
     Other::TooShort,
@@ -100,7 +100,7 @@ fn restart(rng: &mut Rng, events: &mut Events, plan: &Plan, row: usize) {
     events.ticks(period * rng.from_to(0, long_count));
 }
 
-fn add_other(rng: &mut Rng, events: &mut Events, plan: &Plan, row: usize, other: Other) {
+pub fn add_other(rng: &mut Rng, events: &mut Events, plan: &Plan, row: usize, other: Other) {
     let rx = &plan.rx[row];
     let (mut node, mut id, mut length) = (rx.node, rx.id, rx.size);
     match other {

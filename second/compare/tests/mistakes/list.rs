@@ -1,15 +1,27 @@
 //! The planted mistakes, as changes of text: file, old text, new text.
 
+pub type Changes = &'static [(&'static str, &'static str, &'static str)];
+
 pub struct Mistake {
     pub name: &'static str,
-    pub changes: &'static [(&'static str, &'static str, &'static str)],
+    pub changes: Changes,
+    /// Whether a fix can be too old, or a bit not that of the last acceptance.
+    pub breaks_the_age: bool,
 }
 
-const fn mistake(
-    name: &'static str,
-    changes: &'static [(&'static str, &'static str, &'static str)],
-) -> Mistake {
-    Mistake { name, changes }
+const fn mistake(name: &'static str, changes: Changes) -> Mistake {
+    Mistake {
+        name,
+        changes,
+        breaks_the_age: false,
+    }
+}
+
+pub const fn of_the_age(name: &'static str, changes: Changes) -> Mistake {
+    Mistake {
+        breaks_the_age: true,
+        ..mistake(name, changes)
+    }
 }
 
 /// How the second program counts a place.
@@ -50,7 +62,7 @@ pub const MISTAKES: &[Mistake] = &[
                  self.tx_states[tx_number].timer.reload();\n",
         )],
     ),
-    mistake(
+    of_the_age(
         "copying the payload when the frame is queued",
         &[
             (
@@ -129,7 +141,7 @@ pub const MISTAKES: &[Mistake] = &[
         "failure bit not cleared",
         &[("gateway.rs", "self.put_failure_bit(rx_number, false);", "")],
     ),
-    mistake(
+    of_the_age(
         "failure bit set at long timeouts only",
         &[
             (
@@ -144,7 +156,7 @@ pub const MISTAKES: &[Mistake] = &[
             ),
         ],
     ),
-    mistake(
+    of_the_age(
         "failure bit in the last destination's frame",
         &[(
             "plan.rs",
@@ -252,7 +264,7 @@ pub const MISTAKES: &[Mistake] = &[
              if self.is_waiting(tx_number) || self.queues[usize::from(node)].len() == 200 {\n",
         )],
     ),
-    mistake(
+    of_the_age(
         "a short payload reloads the Rx timer",
         &[(
             "gateway.rs",
@@ -326,7 +338,7 @@ pub const MISTAKES: &[Mistake] = &[
             "self.tick_number = (self.tick_number + 1) % 170;",
         )],
     ),
-    mistake(
+    of_the_age(
         "little order as big",
         &[(
             "bits.rs",

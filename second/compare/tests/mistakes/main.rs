@@ -2,17 +2,21 @@
 //!
 //! The second program itself stays clean: for each mistake its sources are
 //! copied, the text of the copy is changed, the copy is built, and the
-//! comparison must find a difference within 1,000 cases. The unchanged copy
-//! must agree.
+//! comparison must find a difference within 1,000 cases. Where the mistake
+//! breaks Ticket 8's sentence, that must be found too, by the cases that are
+//! made for it. The unchanged copy must agree.
 //!
 //! `cargo test --offline --test mistakes -- --nocapture` prints the results.
 
+mod ages;
 mod list;
 
 use std::fs;
 use std::path::{Path, PathBuf};
 use std::process::{Command, Output};
 
+use ages::AGES;
+use compare::shapes::Shapes;
 use list::{Mistake, MISTAKES};
 
 const SOURCES: [&str; 10] = [
@@ -80,6 +84,17 @@ fn last_line(output: &Output) -> String {
     said.lines().last().unwrap_or("no output").to_string()
 }
 
+/// Whether a case of the shapes for the age of a fix has one that is too old.
+fn has_old_fix(shapes: &Shapes, program: &Path) -> bool {
+    let of_ages = |(_, name): &(u64, &str)| name.starts_with("ages: ");
+    let mut of_ages = (0..).zip(shapes.names()).filter(of_ages);
+    of_ages.any(|(index, _)| {
+        let seed = shapes.case_seed(1, index).to_string();
+        let output = compare(&["--case-seed", &seed], program);
+        String::from_utf8_lossy(&output.stdout).contains("\nage of a fix, line ")
+    })
+}
+
 #[test]
 fn the_unchanged_program_agrees() {
     let program = build(&copy_second("unchanged"));
@@ -102,14 +117,17 @@ fn the_unchanged_program_agrees() {
 
 #[test]
 fn every_planted_mistake_is_found() {
+    let shapes = Shapes::all();
     let mut missed = Vec::new();
-    for (number, mistake) in MISTAKES.iter().enumerate() {
+    for (number, mistake) in MISTAKES.iter().chain(AGES).enumerate() {
         let copy = copy_second(&format!("mistake-{number}"));
         plant(&copy, mistake);
-        let output = compare(&["--cases", "1000", "--seed", "1"], &build(&copy));
+        let program = build(&copy);
+        let output = compare(&["--cases", "1000", "--seed", "1"], &program);
         println!("{}: {}", mistake.name, last_line(&output));
         let said = String::from_utf8_lossy(&output.stdout);
-        if output.status.code() != Some(1) || !said.contains("DIFFERENCE") {
+        let found = output.status.code() == Some(1) && said.contains("DIFFERENCE");
+        if !found || mistake.breaks_the_age && !has_old_fix(&shapes, &program) {
             missed.push(mistake.name);
         }
         fs::remove_dir_all(&copy).ok();

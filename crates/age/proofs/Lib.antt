@@ -1,0 +1,13 @@
+pub mod FailureBits
+pub mod Due
+pub mod Logs
+pub mod Knows
+pub mod KnowsReceptions
+pub mod KnowsTicks
+pub mod AnyCalls
+pub mod HandedBits
+pub mod AgeOfAFix
+pub mod Quiet
+pub mod OneSource
+pub mod Silence
+pub mod BestBound

@@ -17,6 +17,16 @@ static const uint8_t plan[] = {
     6, 0, 1, 8,
 };
 
+/* one node, a Tx frame of two bytes that is sent on reception, a source of reload 2 and prescaler 1 whose failure bit is the frame's last */
+static const uint8_t source_plan[] = {
+    1, 0,
+    2, 0,
+    3, 0, 0x01, 0x00, 2, 1, 0, 0, 1, 0, 0, 0, 0, 0, 0, 0, 0,
+    4, 0, 0x00, 0x20, 1, 1, 2, 0, 1, 15, 0,
+    5, 0, 8,
+    6, 0, 0, 0,
+};
+
 static uint8_t area[GATEWAY_AREA_SIZE + 1];
 static uint8_t report[GATEWAY_REPORT_SIZE];
 static const uint8_t payload[9];
@@ -134,6 +144,27 @@ static void made_up(void)
     expect_no_part("another kind", gateway_payload(area, GATEWAY_AREA_SIZE, taken));
 }
 
+/* Ticket 8: a refused tick makes no value older, and an opening forgets what was accepted before. */
+static void ages(void)
+{
+    static const uint8_t value[1] = {0x2c};
+    gateway_open(source_plan, sizeof source_plan, area, GATEWAY_AREA_SIZE);
+    gateway_receive(area, GATEWAY_AREA_SIZE, 0, 0x20, value, 1);
+    gateway_tick(area, GATEWAY_AREA_SIZE, report, sizeof report);
+    for (int i = 0; i < 5; i++)
+        expect("a refused tick", gateway_tick(area, GATEWAY_AREA_SIZE, report, 0), GATEWAY_REFUSED_SHORT_REPORT);
+    struct gateway_taken taken = gateway_take(area, GATEWAY_AREA_SIZE, 0);
+    expect_frame(taken, 0, 2, 0x100, 0);
+    size_t at = gateway_payload(area, GATEWAY_AREA_SIZE, taken).at;
+    expect("the value", area[at], 0x2c);
+    expect("failure bit after one tick and refused ones", area[at + 1], 0);
+    gateway_tick(area, GATEWAY_AREA_SIZE, report, sizeof report);
+    expect("failure bit after two ticks", area[at + 1], 1);
+    gateway_open(source_plan, sizeof source_plan, area, GATEWAY_AREA_SIZE);
+    expect("the value since the opening", area[at], 0);
+    expect("failure bit since the opening", area[at + 1], 0);
+}
+
 int main(int count, char **arguments)
 {
     for (int i = 1; i + 2 < count; i += 3)
@@ -185,6 +216,7 @@ int main(int count, char **arguments)
     expect("the next timeout is the first in a row", report[0], GATEWAY_SHORT_TIMEOUT);
     gateway_tick(area, GATEWAY_AREA_SIZE, report, sizeof report);
     expect("a long timeout, two in a row", report[0], GATEWAY_LONG_TIMEOUT);
+    ages();
 
     printf(wrong == 0 ? "ok\n" : "wrong\n");
     return wrong != 0;

@@ -62,7 +62,7 @@ module _ {plan : List ℕ} (good : GoodPlan plan) (r : ℕ) (l : r < length (row
           rw (ap (λ j. getD (firstOf (length (rowsOf plan)) (w .given)) j 0) (sub-zero r) ∙ getD-take (length (rowsOf plan)) (w .given) r 0 l)
           at (report-tells r 0 (firstOf (length (rowsOf plan)) (w .given)) (omega arith))
 
-      -- an expiry is reported, and nothing else is
+      -- an expiry is reported
       reported : RxExpires (said plan) s r → getD (w .given) r 0 ≡ 0 → ⊥
       reported x z = go (ℕ-discrete (getD (s .longs) r 0) 1)
         where

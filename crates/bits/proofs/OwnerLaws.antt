@@ -9,6 +9,7 @@ use native.Mathlib.Omega.{arith}
 use borrow.Author.Tests.{eqb-true, eq-eqb}
 use lib.Count.{ones, ones-step}
 use lib.Dec.{eqb}
+use Rattle.base.proofs.Apart.{differ}
 use Rattle.bits.specs.Digit.{digit, setDigit}
 use Rattle.base.proofs.Picks.{picks, passes}
 use Rattle.bits.specs.Owners.{owners, owned, clash, joined}
@@ -75,7 +76,7 @@ module _ (set p s : ℕ) where
     where
       at : (b : Bool) → clash set p s ≡ b → clash set p s ≡ true
       at true c = c
-      at false c = let z : _≡_ {A = ℕ} 0 1 = cc (sym (passes _ Clash (Set (owned set p s)) c) ∙ e) in absurd (omega arith)
+      at false c = absurd (differ (cc (sym (passes _ Clash (Set (owned set p s)) c) ∙ e)))
 
   pub joined-set : (n : ℕ) → joined set p s ≡ Set n → (clash set p s ≡ false) × (n ≡ owned set p s)
   unfolding joined
@@ -83,7 +84,7 @@ module _ (set p s : ℕ) where
     where
       at : (b : Bool) → clash set p s ≡ b → (clash set p s ≡ false) × (n ≡ owned set p s)
       at false c = let x = sym (passes _ Clash (Set (owned set p s)) c) ∙ e in (c, (cc))
-      at true c = let z : _≡_ {A = ℕ} 0 1 = cc (sym (picks _ Clash (Set (owned set p s)) c) ∙ e) in absurd (omega arith)
+      at true c = absurd (differ (cc (sym (picks _ Clash (Set (owned set p s)) c) ∙ e)))
 
 -- ---- the count
 

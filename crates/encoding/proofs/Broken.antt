@@ -6,6 +6,7 @@ use Prim.Native.Nat.{ℕ, _+_, _≤_, _<_}
 use native.Mathlib.Decide.{decLt, decLe}
 use native.Mathlib.Omega.{arith}
 use lib.ListN.{length}
+use Rattle.base.proofs.Apart.{differ}
 use Rattle.base.specs.Numbers.{byteAt}
 use Rattle.base.specs.Pick.{pick}
 use Rattle.records.specs.declared.record.Record.the-variants.{Broken}
@@ -61,13 +62,13 @@ module _ (plan : List ℕ) (at : ℕ) (inside : at < length plan) where
   unfolding Whole
   bad-only e =
       ⊎-elim (λ w. w)
-      (⊎-elim (λ w. let c = cut-there kind w in let z : _≡_ {A = ℕ} 0 1 = cc in absurd (omega arith)) (λ w. absurd (rw e at w)))
+      (⊎-elim (λ w. let c = cut-there kind w in absurd (differ cc)) (λ w. absurd (rw e at w)))
       there
 
   cut-only : (k : ℕ) → recordAt plan at ≡ Broken (Cut k) → Short k
   unfolding Whole
   cut-only k e =
-      ⊎-elim (λ w. let c = bad-there w in let z : _≡_ {A = ℕ} 0 1 = cc in absurd (omega arith))
+      ⊎-elim (λ w. let c = bad-there w in absurd (differ cc))
       (⊎-elim
       (λ w. let c = cut-there kind w in let z : kind ≡ k = cc in (z, rw z at (w .1), rw z at (w .2), rw z at (w .3)))
       (λ w. absurd (rw e at w)))

@@ -6,6 +6,7 @@ use native.Mathlib.Omega.{arith}
 use borrow.Author.Tests.{le-leb, lt-leb, leb-false, ltb-false, ne-eqb, lt-ltb, le-ltb}
 use lib.ListN.{length, take, drop, replicate, length-take}
 use lib.Dec.{leb, ltb, eqb}
+use Rattle.base.proofs.Apart.{differ}
 use Rattle.base.specs.Pick.{pick}
 use Rattle.base.specs.Numbers.{byteAt, twoAt}
 use Rattle.base.proofs.Picks.{picks, passes, cases, by-eqb}
@@ -17,7 +18,7 @@ use Rattle.events.specs.Events.{frontOf, Inside, eventLength, wholeEvent
 -- the input's front, by what decides it
 module _ (input : List ℕ) where
   bad-inside : Inside input front.Bad
-  bad-inside end e = let z : _≡_ {A = ℕ} 0 1 = cc in absurd (omega arith)
+  bad-inside end e = absurd (differ cc)
 
   pub front-long : 65536 < length input → (front.Bad ≡ frontOf input) × Inside input front.Bad
   unfolding frontOf pick

@@ -5,6 +5,7 @@ use mathlib.Core.List.{List, [], _∷_}
 use Prim.Native.Nat.{ℕ, _+_, _≤_, _<_}
 use native.Mathlib.Omega.{arith}
 use lib.ListN.{length}
+use Rattle.base.proofs.Apart.{differ}
 use Rattle.records.specs.declared.record.Record.{Record}
 use Rattle.records.specs.Kinds.{stageOf}
 use Rattle.records.specs.Records.{records}
@@ -140,5 +141,4 @@ facts-good plan h =
 pub refused-lacks : RefusedLacks
 refused-lacks plan reason number e h =
     let g = facts-good plan h in
-    let z : _≡_ {A = ℕ} 0 1 = cc in
-    omega arith
+    differ cc

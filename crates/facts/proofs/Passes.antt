@@ -5,6 +5,7 @@ use mathlib.Core.List.{List, [], _∷_}
 use Prim.Native.Nat.{ℕ, _<_}
 use native.Mathlib.Omega.{arith}
 use borrow.Author.Tests.{eqb-false, ne-eqb}
+use Rattle.base.proofs.Apart.{differ}
 use Rattle.base.specs.Pick.{pick}
 use Rattle.records.specs.declared.record.Record.{Record}
 use Rattle.plan.specs.declared.verdict.Reason.{Reason}
@@ -46,17 +47,17 @@ module _ (n t r : ℕ) where
     where
       go : (y : Next) → judged p sizes sets x ≡ y → verdictOf y rest ≡ Good n t r → Passed p sizes sets x × (rest ≡ Good n t r)
       go (Go q) is e = (passed p sizes sets x q is .0, e)
-      go (Refuse a k) is e = let z : _≡_ {A = ℕ} 0 1 = cc in absurd (omega arith)
+      go (Refuse a k) is e = absurd (differ cc)
 
   -- a choice that is good, where one side is a refusal
   pick-good : (b : Bool) (v : Verdict) (a : Reason) (k : ℕ) → pick b v (Refused a k) ≡ Good n t r → (b ≡ true) × (v ≡ Good n t r)
   unfolding pick
   pick-good true v a k e = (refl, e)
-  pick-good false v a k e = let z : _≡_ {A = ℕ} 0 1 = cc in absurd (omega arith)
+  pick-good false v a k e = absurd (differ cc)
 
   pick-left : (b : Bool) (v : Verdict) (a : Reason) (k : ℕ) → pick b (Refused a k) v ≡ Good n t r → (b ≡ false) × (v ≡ Good n t r)
   unfolding pick
-  pick-left true v a k e = let z : _≡_ {A = ℕ} 0 1 = cc in absurd (omega arith)
+  pick-left true v a k e = absurd (differ cc)
   pick-left false v a k e = (refl, e)
 
   ended-good : (p : Progress) → ended p ≡ Good n t r → (followed (p .row) 0 ≡ true) × (0 < p .number)

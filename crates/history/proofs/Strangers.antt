@@ -6,6 +6,7 @@ use Prim.Native.Nat.{ℕ, _+_, _≤_, _<_}
 use native.Mathlib.Omega.{arith}
 use native.Mathlib.Decide.{ℕ-discrete, decLt}
 use lib.ListN.{length}
+use Rattle.base.proofs.Apart.{differ}
 use Rattle.base.specs.Numbers.{byteAt}
 use Rattle.base.proofs.Ranges.{at-most-le}
 use Rattle.plan.specs.Rows.{rowsOf}
@@ -87,6 +88,5 @@ strangers-belong a calls plan is n id place payload answered =
     belongs plan (h .good) n id place
     (λ r x.
     let f = finds .finds r (record { exists = x .exists; node = x .node; id = x .id }) in
-    let z : _≡_ {A = ℕ} 0 1 = cc in
-    absurd (omega arith))
+    absurd (differ cc))
     (finds .places place lost)

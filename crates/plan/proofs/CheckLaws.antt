@@ -3,7 +3,7 @@ use mathlib.Core.Path.{_≡_, refl, sym}
 use mathlib.Core.Bool.{Bool, true, false, not}
 use mathlib.Core.List.{List, []}
 use Prim.Native.Nat.{ℕ, _-_}
-use native.Mathlib.Omega.{arith}
+use Rattle.base.proofs.Apart.{differ}
 use Rattle.base.specs.Pick.{pick}
 use Rattle.records.specs.declared.record.Record.{Record}
 use Rattle.records.specs.declared.record.Record.the-variants.{Head, Node, Tx, Rx, Signal, Destination, Broken}
@@ -31,7 +31,7 @@ use Rattle.plan.proofs.StepLaws.{stops, goes}
 need-go : (t : Bool) (a : Reason) (n : ℕ) (rest : Next) (q : Progress) → need t a n rest ≡ Go q → (t ≡ true) × (rest ≡ Go q)
 unfolding need pick
 need-go true a n rest q e = (refl, e)
-need-go false a n rest q e = let z : _≡_ {A = ℕ} 0 1 = cc in absurd (omega arith)
+need-go false a n rest q e = absurd (differ cc)
 
 pub record Passed (p : Progress) (sizes sets : List ℕ) (r : Record) : Type 0 where
   pub follows : followed (p .row) (stageOf r) ≡ true
@@ -116,11 +116,11 @@ judged-broken p sizes sets (Cut kind) f = goes _ _ _ _ f (goes _ _ _ _ refl (sto
 
 no-signal : (body : SignalBody) → followerOf (Signal body) ≡ follower.Other → ⊥
 unfolding followerOf
-no-signal body e = let z : _≡_ {A = ℕ} 0 1 = cc in omega arith
+no-signal body e = differ cc
 
 no-destination : (body : DestinationBody) → followerOf (Destination body) ≡ follower.Other → ⊥
 unfolding followerOf
-no-destination body e = let z : _≡_ {A = ℕ} 0 1 = cc in omega arith
+no-destination body e = differ cc
 
 -- it does not come where one of them is
 pub signal-elsewhere : {A : Type 0} (r : Record) {body : SignalBody} → followerOf r ≡ follower.Other → r ≡ Signal body → A

@@ -2,9 +2,9 @@
 use mathlib.Core.Path.{_≡_, sym, ap, _∙_}
 use mathlib.Core.Bool.{Bool, true, false}
 use Prim.Native.Nat.{ℕ, _≤_, _<_}
-use native.Mathlib.Omega.{arith}
 use borrow.Author.Tests.{eq-eqb, ne-eqb, le-ltb, lt-ltb}
 use lib.Dec.{eqb}
+use Rattle.base.proofs.Apart.{differ}
 use Rattle.base.specs.Pick.{pick}
 use Rattle.base.proofs.Picks.{picks, passes}
 use Rattle.bits.specs.Owners.{owned, clash, joined}
@@ -54,11 +54,11 @@ set-cases :
     (a b c d : Bool) (one two n : ℕ)
     → pick a (Refused Owner) (pick b (Set one) (pick c (pick d (Refused Owner) (Set two)) (Refused Indicator))) ≡ Set n → n ≡ pick b one two
 unfolding pick
-set-cases true b c d one two n e = let z : _≡_ {A = ℕ} 0 1 = cc in absurd (omega arith)
+set-cases true b c d one two n e = absurd (differ cc)
 set-cases false true c d one two n e = cc
-set-cases false false true true one two n e = let z : _≡_ {A = ℕ} 0 1 = cc in absurd (omega arith)
+set-cases false false true true one two n e = absurd (differ cc)
 set-cases false false true false one two n e = cc
-set-cases false false false d one two n e = let z : _≡_ {A = ℕ} 0 1 = cc in absurd (omega arith)
+set-cases false false false d one two n e = absurd (differ cc)
 
 pub claimed-set :
     (set q s awaits position room n : ℕ) → claimed set q s awaits position room ≡ Set n

@@ -7,6 +7,7 @@ use native.Mathlib.Omega.{arith}
 use borrow.Author.Tests.{leb-true, ltb-true}
 use lib.Dec.{leb, ltb}
 use lib.ListN.{length, getD, replicate, length-set, length-replicate}
+use Rattle.base.proofs.Apart.{differ}
 use Rattle.records.specs.declared.record.SignalBody.{SignalBody}
 use Rattle.records.specs.declared.record.DestinationBody.{DestinationBody}
 use Rattle.records.specs.declared.record.Follower.{Follower}
@@ -210,7 +211,7 @@ good-step :
     → setsUnless next sets rest ≡ all
 unfolding verdictOf setsUnless
 good-step (Go q) v sets rest all n t x e more = more e
-good-step (Refuse a k) v sets rest all n t x e more = let z : _≡_ {A = ℕ} 0 1 = cc in absurd (omega arith)
+good-step (Refuse a k) v sets rest all n t x e more = absurd (differ cc)
 
 pub sets-good :
     (p : Progress) (sizes sets : List ℕ) (rs : List Record) (n t x : ℕ) → checkOn p sizes sets rs ≡ Good n t x

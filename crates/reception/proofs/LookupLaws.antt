@@ -8,6 +8,7 @@ use native.Mathlib.Nat.{eq-or-lt-of-le, lt-of-not-le}
 use native.Mathlib.Decide.{ℕ-discrete, decLe}
 use native.Mathlib.Omega.{arith}
 use lib.Dec.{ltb}
+use Rattle.base.proofs.Apart.{differ}
 use Rattle.base.proofs.Picks.{by-eqb, both}
 use Rattle.records.specs.declared.record.RxNumber.{RxNumber}
 use Rattle.reception.specs.declared.lookup.Found.{Found}
@@ -30,7 +31,7 @@ abbrev Has : List ℕ → ℕ → Found → Type 0
 Has a key r = (x : RxNumber) → r ≡ At x → keyAt a (x .0) ≡ key
 
 nothing-has : (a : List ℕ) (key place : ℕ) → Has a key (Nothing place)
-nothing-has a key place x e = let z : _≡_ {A = ℕ} 0 1 = cc in absurd (omega arith)
+nothing-has a key place x e = absurd (differ cc)
 
 found-has : (looks : ℕ) (a : List ℕ) (first place n key : ℕ) → Has a key (lookIn looks a first place n key)
 unfolding lookIn lookOnce
@@ -139,8 +140,7 @@ parted (suc bound) a first place n key left h s e =
     (⊎-elim
     (λ (c : keyAt a m ≡ key).
     let f : At (record { 0 = m }) ≡ Nothing left = sym (hit a first place n key some c) ∙ e in
-    let z : _≡_ {A = ℕ} 0 1 = cc in
-    absurd (omega arith))
+    absurd (differ cc))
     (λ (c : keyAt a m < key).
     high-parts a first place n key left s some c
     (parted bound a first (place + n / 2 + 1) (n - n / 2 - 1) key left (omega arith) (rising-high a first place n s some)

@@ -8,6 +8,7 @@ use native.Mathlib.Omega.{arith}
 use lib.Dec.{leb, ltb}
 use lib.ListN.{length}
 use borrow.Author.Tests.{le-ltb, ltb-true, ltb-false, leb-true}
+use Rattle.base.proofs.Apart.{differ}
 use Rattle.base.specs.Pick.{pick}
 use Rattle.base.proofs.Picks.{cases}
 use Rattle.base.specs.Numbers.{byteAt}
@@ -64,13 +65,13 @@ module _ (a : List ℕ) (n id : ℕ) (payload : List ℕ) where
       (λ o. refuse NotOpen)
     where
       refuse : (why : Refusal) → P (Refused why) a
-      refuse why = other (Refused why) (λ e. let z : _≡_ {A = ℕ} 0 1 = cc in omega arith)
+      refuse why = other (Refused why) (λ e. differ cc)
 
       go : marked a ≡ true → n < nodeCount a → length payload ≤ 8 → (f : Found) → lookedUp a n id ≡ f → P (foundAnswer a f payload) (foundArea a f payload)
-      go o k s (Nothing place) e = unfold foundAnswer foundArea in other (NoRow place) (λ w. let z : _≡_ {A = ℕ} 0 1 = cc in omega arith)
+      go o k s (Nothing place) e = unfold foundAnswer foundArea in other (NoRow place) (λ w. differ cc)
       go o k s (At r) e = unfold foundAnswer foundArea in
           pairs P (ltb (length payload) (rxFrame a (r .0) .size))
-          (λ t. other TooShort (λ w. let z : _≡_ {A = ℕ} 0 1 = cc in omega arith))
+          (λ t. other TooShort (λ w. differ cc))
           (λ t. taken r (record { opened = o; known = k; short = s; found = e; whole = ltb-false (length payload) (rxFrame a (r .0) .size) t }))
 
   -- an unaccepted reception leaves every byte

@@ -4,6 +4,7 @@ use mathlib.Core.List.{List}
 use Prim.Native.Nat.{ℕ, _+_, _-_, _≤_, _<_}
 use native.Mathlib.Omega.{arith}
 use lib.ListN.{length}
+use Rattle.base.proofs.Apart.{differ}
 use Rattle.base.specs.Pick.{pick}
 use Rattle.base.specs.Numbers.{byteAt}
 use Rattle.base.proofs.Picks.{by-eqb}
@@ -54,22 +55,22 @@ module _ (plan : List ℕ) (at : ℕ) (h : at < length plan) where
 is-signal : (r : Record) {body : SignalBody} → follower.Signal body ≡ followerOf r → Signal body ≡ r
 unfolding followerOf
 is-signal (Signal own) e = cc
-is-signal (Head order) e = let z : _≡_ {A = ℕ} 0 1 = cc in absurd (omega arith)
-is-signal (Node body) e = let z : _≡_ {A = ℕ} 0 1 = cc in absurd (omega arith)
-is-signal (Tx frame) e = let z : _≡_ {A = ℕ} 0 1 = cc in absurd (omega arith)
-is-signal (Rx frame) e = let z : _≡_ {A = ℕ} 0 1 = cc in absurd (omega arith)
-is-signal (Destination body) e = let z : _≡_ {A = ℕ} 0 1 = cc in absurd (omega arith)
-is-signal (Broken fault) e = let z : _≡_ {A = ℕ} 0 1 = cc in absurd (omega arith)
+is-signal (Head order) e = absurd (differ cc)
+is-signal (Node body) e = absurd (differ cc)
+is-signal (Tx frame) e = absurd (differ cc)
+is-signal (Rx frame) e = absurd (differ cc)
+is-signal (Destination body) e = absurd (differ cc)
+is-signal (Broken fault) e = absurd (differ cc)
 
 is-destination : (r : Record) {body : DestinationBody} → follower.Destination body ≡ followerOf r → Destination body ≡ r
 unfolding followerOf
 is-destination (Destination own) e = cc
-is-destination (Head order) e = let z : _≡_ {A = ℕ} 0 1 = cc in absurd (omega arith)
-is-destination (Node body) e = let z : _≡_ {A = ℕ} 0 1 = cc in absurd (omega arith)
-is-destination (Tx frame) e = let z : _≡_ {A = ℕ} 0 1 = cc in absurd (omega arith)
-is-destination (Rx frame) e = let z : _≡_ {A = ℕ} 0 1 = cc in absurd (omega arith)
-is-destination (Signal body) e = let z : _≡_ {A = ℕ} 0 1 = cc in absurd (omega arith)
-is-destination (Broken fault) e = let z : _≡_ {A = ℕ} 0 1 = cc in absurd (omega arith)
+is-destination (Head order) e = absurd (differ cc)
+is-destination (Node body) e = absurd (differ cc)
+is-destination (Tx frame) e = absurd (differ cc)
+is-destination (Rx frame) e = absurd (differ cc)
+is-destination (Signal body) e = absurd (differ cc)
+is-destination (Broken fault) e = absurd (differ cc)
 
 module _ (plan : List ℕ) (at : ℕ) where
   pub step-signal :

@@ -2,8 +2,8 @@
 use mathlib.Core.Path.{_≡_, refl, ap, _∙_}
 use mathlib.Core.List.{List, [], _∷_, _++_}
 use Prim.Native.Nat.{ℕ}
-use native.Mathlib.Omega.{arith}
 use lib.ListN.{length}
+use Rattle.base.proofs.Apart.{differ}
 use Rattle.base.specs.Numbers.{Bytes}
 use Rattle.plan.specs.Check.{checkPlan}
 use Rattle.facts.specs.Good.{Each}
@@ -71,7 +71,7 @@ module _ (room : ℕ) (a : List ℕ) (e : length a ≡ room) (plan : List ℕ) w
   not-refused : {n t r : ℕ} → replyIn a (opening plan) ≡ opened (Open n t r) → (why : Refusal) (number : ℕ)
       → openedAnswer (checkPlan plan) (length a) ≡ Refused why number → ⊥
   unfolding replyIn
-  not-refused f why number g = let z : _≡_ {A = ℕ} 0 1 = cc in omega arith
+  not-refused f why number g = differ cc
 
   opens : {n t r : ℕ} → replyIn a (opening plan) ≡ opened (Open n t r) → Bytes plan
       → Agrees (stepped a (opening plan)) (worldAfter (theModel room) closed (opening plan))

@@ -6,6 +6,7 @@ use native.Mathlib.Omega.{arith}
 use lib.Dec.{leb, ltb}
 use lib.ListN.{length}
 use borrow.Author.Tests.{ltb-true}
+use Rattle.base.proofs.Apart.{differ}
 use Rattle.base.proofs.Picks.{picks}
 use Rattle.records.specs.declared.record.RxFrame.{RxFrame}
 use Rattle.records.specs.Records.{records}
@@ -58,8 +59,7 @@ module _ {plan a : List ℕ} {s : State} (lawful : Lawful (said plan)) (h : Held
             cannot : (r : ℕ) → Names (said plan) n id r → lookedUp a n id ≡ Nothing place → ⊥
             cannot r x e =
                 let f = looks .finds r (record { exists = x .exists; node = x .node; id = x .id }) in
-                let z : _≡_ {A = ℕ} 0 1 = cc in
-                omega arith
+                differ cc
         go (At x) e =
             let w = looks .found x e in
             rw (e, found (said plan) lawful n id (x .0) (record { exists = w .exists; node = w .node; id = w .id })) (some (x .0) (w .exists))

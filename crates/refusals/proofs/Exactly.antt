@@ -3,7 +3,7 @@ use mathlib.Core.Path.{_≡_, sym, ap, _∙_}
 use mathlib.Core.Logic.{⊎-elim}
 use mathlib.Core.List.{List}
 use Prim.Native.Nat.{ℕ}
-use native.Mathlib.Omega.{arith}
+use Rattle.base.proofs.Apart.{differ}
 use Rattle.plan.specs.declared.verdict.Reason.{Reason}
 use Rattle.plan.specs.declared.verdict.Verdict.{Verdict}
 use Rattle.plan.specs.declared.verdict.Verdict.the-variants.{Good, Refused}
@@ -14,7 +14,7 @@ use Rattle.refusals.specs.Statements.{RefusedExactly, GoodExactly, OneRe
 use Rattle.refusals.proofs.Outcome.{refused, decided}
 
 no-good : {v : Verdict} {n t r : ℕ} {reason : Reason} {named : ℕ} → v ≡ Good n t r → v ≡ Refused reason named → ⊥
-no-good e f = let z : _≡_ {A = ℕ} 0 1 = cc in omega arith
+no-good e f = differ cc
 
 pub one-refusal : OneRefusal
 one-refusal plan number named number′ named′ v w =

@@ -6,6 +6,7 @@ use Prim.Native.Nat.{ℕ, zero, suc, _+_, _-_, _≤_, _<_}
 use native.Mathlib.Decide.{decLt, ℕ-discrete}
 use native.Mathlib.Omega.{arith}
 use lib.ListN.{length}
+use Rattle.base.proofs.Apart.{differ}
 use Rattle.base.specs.Pick.{pick}
 use Rattle.base.specs.Numbers.{byteAt, twoAt}
 use Rattle.base.proofs.Picks.{by-eqb}
@@ -59,8 +60,7 @@ records-head plan at r rs e = go (decLt at (length plan))
         (h, is, (cc))
     go (no h) =
         let none = records-end plan at (omega arith) in
-        let z : _≡_ {A = ℕ} 0 1 = cc in
-        absurd (omega arith)
+        absurd (differ cc)
 
 module _ (plan : List ℕ) (at : ℕ) where
   -- a record at a place is before the plan's end, and ends by it

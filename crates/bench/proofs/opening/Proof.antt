@@ -6,6 +6,7 @@ use native.Mathlib.Omega.{arith}
 use borrow.Author.Needs.{needs}
 use lib.Dec.{leb}
 use lib.ListN.{length, replicate, length-replicate}
+use Rattle.base.proofs.Apart.{differ}
 use Rattle.base.proofs.Picks.{both}
 use Rattle.plan.specs.declared.verdict.Verdict.{Verdict}
 use Rattle.plan.specs.declared.verdict.Verdict.the-variants as verdict
@@ -28,7 +29,7 @@ abbrev Few : Opened → Type 0
 Few o = (n t r : ℕ) → o ≡ Open n t r → r ≤ 256
 
 refused-few : (why : Refusal) (number : ℕ) → Few (Refused why number)
-refused-few why number n t r e = let z : _≡_ {A = ℕ} 0 1 = cc in absurd (omega arith)
+refused-few why number n t r e = absurd (differ cc)
 
 -- a good plan has no more, and a refused one answers no count
 verdict-few : (plan : List ℕ) (size : ℕ) (v : Verdict) → checkPlan plan ≡ v → Few (openedAnswer v size)

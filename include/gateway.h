@@ -5,7 +5,7 @@
  * call does not overlap; and nothing else reads or writes it while the call runs. Between the calls the caller may read the area, and writes
  * nothing into it. No call asks more: any bytes and any numbers are met, and every call ends.
  *
- * A call answers a struct of at most 16 bytes, a tick a number. `number` is 0, one of the answers, or one of the refusals below. A field that
+ * A call answers a struct of at most 16 bytes, or a number alone. `number` is 0, one of the answers, or one of the refusals below. A field that
  * says nothing is 0. A refused call changes no byte.
  */
 #ifndef GATEWAY_H
@@ -22,20 +22,23 @@ extern "C" {
 #define GATEWAY_AREA_SIZE 32768
 #define GATEWAY_REPORT_SIZE 256
 
-/* What a reception that is not refused answers. */
+/* What a reception or a response that is not refused answers. */
 
-/* accepted: the frame's signals are copied, and its timer and long counter start again */
+/* accepted: the frame's signals are copied, and its long counter starts again; in a reception its timer too */
 #define GATEWAY_ACCEPTED 0
 /* a frame with no matching row: nothing changes */
 #define GATEWAY_NO_ROW 1
 /* a payload shorter than the row's size: nothing changes */
 #define GATEWAY_TOO_SHORT 2
+/* a wrong checksum of a response: nothing changes */
+#define GATEWAY_WRONG_SUM 3
 
 /* What a take has taken. */
 #define GATEWAY_NOTHING 0
 #define GATEWAY_FRAME 1
+#define GATEWAY_REQUEST 2
 
-/* The bytes of a report: 0 says nothing, and these a timeout of the Rx frame; a long one comes after as many in a row as its long count. */
+/* A timeout of an Rx frame, in a report and as the answer to "no response"; a long one comes after as many in a row as its long count. */
 #define GATEWAY_SHORT_TIMEOUT 1
 #define GATEWAY_LONG_TIMEOUT 2
 
@@ -45,7 +48,7 @@ extern "C" {
 #define GATEWAY_REFUSED_SHORT 1
 /* the kind is not 1 to 6 */
 #define GATEWAY_REFUSED_KIND 2
-/* the kind may not stand here */
+/* the kind may not stand here, or a CAN node follows a LIN node */
 #define GATEWAY_REFUSED_PLACE 3
 /* a count is passed: 16 nodes, 256 Tx, 256 Rx frames, 1,024 signals (64 in a frame), 2,048 destinations (15 for a signal) */
 #define GATEWAY_REFUSED_COUNT 4
@@ -71,6 +74,8 @@ extern "C" {
 #define GATEWAY_REFUSED_SHORT_REPORT 14
 /* no such Tx frame */
 #define GATEWAY_REFUSED_NO_FRAME 15
+/* a reception on a LIN node; a response or "no response" where the node is not LIN or has no such Rx frame */
+#define GATEWAY_REFUSED_WRONG_CALL 16
 
 /*
  * Checks the plan and fills the area. The answer has the counts of nodes, Tx and Rx frames.
@@ -86,9 +91,9 @@ struct gateway_opened {
 struct gateway_opened gateway_open(const uint8_t *plan, size_t plan_length, uint8_t *area, size_t area_length);
 
 /*
- * A frame that a node received. The number is GATEWAY_ACCEPTED, GATEWAY_NO_ROW or GATEWAY_TOO_SHORT. With GATEWAY_NO_ROW, `place` is how many of
+ * A frame that a CAN node received. The number is GATEWAY_ACCEPTED, GATEWAY_NO_ROW or GATEWAY_TOO_SHORT. With GATEWAY_NO_ROW, `place` is how many of
  * that node's rows have a smaller ID: behind so many of them such a row belongs in the plan.
- * Refusals 11, 12, 13.
+ * Refusals 11, 12, 16, 13.
  */
 struct gateway_received {
     uint16_t number;
@@ -97,28 +102,46 @@ struct gateway_received {
 struct gateway_received gateway_receive(uint8_t *area, size_t area_length, size_t node, uint32_t id, const uint8_t *payload, size_t payload_length);
 
 /*
- * One tick of the clock. The report gets a byte for each Rx frame, in their order: 0, GATEWAY_SHORT_TIMEOUT or GATEWAY_LONG_TIMEOUT. Its further
- * bytes stay. The answer is the number alone: 0, or refusals 11, 14.
+ * A response to a request on a LIN node: its plain ID, its data, and the checksum that came behind them. The answer is the number alone:
+ * GATEWAY_ACCEPTED, GATEWAY_TOO_SHORT or GATEWAY_WRONG_SUM; the checksum is that of the protected identifier and every byte of the payload.
+ * Refusals 11, 12, 16, 13.
+ */
+uint16_t gateway_respond(uint8_t *area, size_t area_length, size_t node, uint32_t id, const uint8_t *payload, size_t payload_length, uint8_t checksum);
+
+/*
+ * A request on a LIN node was not answered: to failure bit and long counter this is what an expiry is on CAN. The answer is the number alone:
+ * GATEWAY_SHORT_TIMEOUT or GATEWAY_LONG_TIMEOUT. Refusals 11, 12, 16.
+ */
+uint16_t gateway_no_response(uint8_t *area, size_t area_length, size_t node, uint32_t id);
+
+/*
+ * One tick of the clock. The report gets a byte for each Rx frame, in their order: 0, GATEWAY_SHORT_TIMEOUT or GATEWAY_LONG_TIMEOUT; on a LIN node
+ * always 0, since its timer only asks for the frame. Its further bytes stay. The answer is the number alone: 0, or refusals 11, 14.
  */
 uint16_t gateway_tick(uint8_t *area, size_t area_length, uint8_t *report, size_t report_length);
 
 /*
- * The oldest frame that waits on a node, which then waits no more. The kind is GATEWAY_FRAME, and then the answer has its Tx number, its size, its
- * ID and how many still wait on that node; or GATEWAY_NOTHING where none waits or the take is refused. Refusals 11, 12.
+ * The oldest frame or request that waits on a node, which then waits no more. The kind is GATEWAY_FRAME, and then the answer has its Tx number; or
+ * GATEWAY_REQUEST, on a LIN node, and then the Rx number of the frame that is asked for; and with both its size, its ID and how many still wait on
+ * that node. On LIN `protected_id` is the protected identifier, which is never 0, and for a frame `checksum` that of the payload; on CAN both are 0.
+ * The kind is GATEWAY_NOTHING where nothing waits or the take is refused. Refusals 11, 12.
  */
 struct gateway_taken {
     uint16_t number;
-    uint16_t kind;
+    uint8_t kind;
+    uint8_t size;
     uint16_t tx;
-    uint16_t size;
+    uint16_t rx;
     uint32_t id;
     uint16_t waiting;
+    uint8_t protected_id;
+    uint8_t checksum;
 };
 struct gateway_taken gateway_take(uint8_t *area, size_t area_length, size_t node);
 
 /*
  * The payload of a frame that was taken: `size` bytes of the area, from its byte `at` on; `taken` is what the take answered. The bytes are those
- * that a reception or a tick last left there: read them before the next call. Where nothing was taken both are 0. A plan's sizes are at most 8; in
+ * that a call last left there: read them before the next one. Where no frame was taken both are 0. A plan's sizes are at most 8; in
  * an area that others wrote into a size can be up to 15. Never refused, whatever `taken` has.
  */
 struct gateway_payload {

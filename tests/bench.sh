@@ -61,6 +61,27 @@ from Rx frame 1: 0x109f, failure bit 0
 accepted 2 ticks ago; bound: fewer than 3
 END
 
+# What is shown of LIN in examples/pumps.txt up to the first frame on CAN: takes, responses and silence.
+tools/bench examples/pumps.txt | sed -n '/^event /,/take on node 0/p' |
+    grep -oE '(request for Rx|protected 0x|checksum 0x|not taken|the right one|short timeout).*' >"$there/lin"
+diff "$there/lin" - <<'END' || fail "examples/pumps.txt: not these words"
+request for Rx frame 1 (ID 0x021), none waits after it
+protected 0x61; 3 bytes and a checksum should come
+checksum 0x8d, protected 0x61
+request for Rx frame 2 (ID 0x022), none waits after it
+protected 0xe2; 3 bytes and a checksum should come
+checksum 0x15, protected 0xe2
+protected 0x50; checksum 0x64
+request for Rx frame 1 (ID 0x021), none waits after it
+protected 0x61; 3 bytes and a checksum should come
+not taken: the checksum is wrong
+the right one is 0x28, protected 0x61
+short timeout: Rx frame 1 (node 1, ID 0x021)
+request for Rx frame 2 (ID 0x022), none waits after it
+protected 0xe2; 3 bytes and a checksum should come
+checksum 0xb0, protected 0xe2
+END
+
 # Terminals that have ASCII alone.
 printf '# na\303\257ve\n0100\nevents\n' >"$there/comment.txt"
 printf '0\303\257\nevents\n' >"$there/word.txt"

@@ -1,6 +1,6 @@
 """What tools/bench says of a refused plan names what is to be mended. Argument: a bench program.
 
-Each line of CAUSES is a plan, its refusal and the words. Then every byte of two good plans is changed and every end cut off: the program decides
+Each line of CAUSES is a plan, its refusal and the words. Then every byte of three good plans is changed and every end cut off: the program decides
 what is refused, and for each refusal words must be there.
 """
 import subprocess
@@ -11,12 +11,15 @@ sys.path.insert(0, 'tools')
 from view.refused import cause
 from view.typed import read_text
 
-HEAD, NODE = '0100 ', '0200 '
+HEAD, NODE, LIN = '0100 ', '0200 ', '0201 '
 TX = '03 00 0100 02 01 03 03 02 0000000000000000 '       # two bytes
 RX = '04 00 0020 01 01 02 02 00 00 02 '                  # one byte, no failure bit
 RX_FAILURE = '04 00 0020 01 01 02 02 01 0f 02 '          # failure bit 15
 SIGNAL, DESTINATION = '05 02 04 ', '06 0000 06 '         # bits 2 to 5, to bits 6 to 9
 GOOD = HEAD + NODE + TX
+ON_LIN = HEAD + NODE + LIN
+LIN_TX = '03 01 003b 01 01 03 03 02 0000000000000000 '   # the last ID of a LIN node, one byte
+LIN_RX = '04 01 003b 01 01 02 02 00 00 02 '
 
 
 def rx(number):
@@ -55,7 +58,20 @@ CAUSES = [
      'this would make 16 destinations of this signal, and at most 15 are lawful'),
     (''.join(TOO_MANY), 4, len(TOO_MANY) - 1, 'this would make 2,049 destinations, and at most 2,048 are lawful'),
     ('0102', 5, 0, 'order is hex 02, and its range is hex 00 (big) or 01 (little)'),
-    (HEAD + '0201', 5, 1, 'type is hex 01, and its range is hex 00 (CAN)'),
+    (HEAD + LIN + NODE, 3, 2, 'here stands a CAN node, and node 0 is a LIN node; LIN nodes stand behind all CAN nodes'),
+    (ON_LIN + LIN + NODE, 3, 4, 'here stands a CAN node, and node 1 is a LIN node; LIN nodes stand behind all CAN nodes'),
+    (ON_LIN + LIN_TX + NODE, 3, 4, 'here stands a node; after a Tx frame comes a Tx frame or an Rx frame'),
+    (HEAD + 15 * NODE + LIN + NODE, 3, 17, 'here stands a CAN node, and node 15 is a LIN node; LIN nodes stand behind all CAN nodes'),
+    (HEAD + 15 * NODE + 2 * LIN, 4, 17, 'this would make 17 nodes, and at most 16 are lawful'),
+    (HEAD + '0202', 5, 1, 'type is hex 02, and its range is hex 00 (CAN) or 01 (LIN)'),
+    (HEAD + LIN + '0202', 5, 2, 'type is hex 02, and its range is hex 00 (CAN) or 01 (LIN)'),
+    (ON_LIN + LIN_TX.replace('003b', '003c'), 5, 3, 'ID is hex 003c (60), and its range is hex 0000 to 003b (0 to 59) on a LIN node'),
+    (ON_LIN + LIN_TX.replace('003b 01', '003b 00'), 5, 3, 'size is hex 00, and its range is hex 01 to 08 on a LIN node'),
+    (ON_LIN + LIN_RX.replace('003b', '0800'), 5, 3, 'ID is hex 0800 (2048), and its range is hex 0000 to 003b (0 to 59) on a LIN node'),
+    (ON_LIN + LIN_RX.replace('003b 01', '003c 09'), 5, 3, 'ID is hex 003c (60), and its range is hex 0000 to 003b (0 to 59) on a LIN node; '
+                                                          'size is hex 09, and its range is hex 01 to 08 on a LIN node'),
+    (ON_LIN + '04 02' + LIN_RX[5:], 5, 3, 'node is hex 02, and there are nodes 0 to 1'),
+    (ON_LIN + LIN_RX + LIN_RX, 6, 4, 'node 1, ID 0x03b is the row of Rx frame 0, record 3; Rx frames stand in rising order of node, then of ID'),
     (HEAD + TX, 5, 1, 'node is hex 00, and there is no node'),
     (HEAD + NODE + '03 01' + TX[5:], 5, 2, 'node is hex 01, and there is node 0 alone'),
     (HEAD + NODE * 3 + '03 03' + TX[5:], 5, 4, 'node is hex 03, and there are nodes 0 to 2'),
@@ -110,10 +126,10 @@ if {row[1] for row in CAUSES} != set(range(1, 10)):
     sys.exit('not every refusal of a plan is there')
 
 met = 0
-for example in ('examples/ship.txt', 'examples/listing.txt'):
+for example in ('examples/ship.txt', 'examples/listing.txt', 'examples/pumps.txt'):
     with open(example, encoding='utf-8') as text:
         good = bytes(read_text(text.read())[0].data)
-    changed = [good[:place] + bytes([byte]) + good[place + 1:] for place in range(len(good)) for byte in (0, 2, 5, 0x41, 0xff)]
+    changed = [good[:place] + bytes([byte]) + good[place + 1:] for place in range(len(good)) for byte in (0, 1, 2, 5, 0x41, 0xff)]
     for plan in changed + [good[:end] for end in range(len(good))]:
         found = refusal(plan)
         met += found is not None

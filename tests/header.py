@@ -83,18 +83,24 @@ def declared(header):
 def numbers_said(texts):
     """the constants that the definitions ask for"""
     said = {}
+
+    def say(name, number):
+        """two calls that have the answer have one number for it"""
+        said[name] = int(number) if said.get(name, int(number)) == int(number) else f'{said[name]} and {number}'
     for name, number in re.findall(r'^numberOf (\w+) = (\d+)$', texts['reasons'], flags=re.M):
         said['GATEWAY_REFUSED_' + upper(name)] = int(number)
     for name, number in re.findall(r'^refusalNumber (\w+) = (\d+)$', texts['answers'], flags=re.M):
         said['GATEWAY_REFUSED_' + upper(name)] = int(number)
-    for name, number in re.findall(r'^receivedNumber \(?(\w+)[^=]* = (\d+)$', texts['answers'], flags=re.M):
-        said['GATEWAY_' + upper(name)] = int(number)
+    for name, number in re.findall(r'^(?:received|responded)Number \(?(?:responded\.)?(\w+)[^=]* = (\d+)$', texts['answers'], flags=re.M):
+        say('GATEWAY_' + upper(name), number)
     said['GATEWAY_AREA_SIZE'] = int(re.search(r'^shortestArea = (\d+)$', texts['shortest'], flags=re.M).group(1))
     said['GATEWAY_REPORT_SIZE'] = int(re.search(r'^rxCount a = atMost (\d+) \(lowAt a rxCountBytes\)$', texts['layout'], flags=re.M).group(1))
-    for name, start in ('NOTHING', r'^noFrame number = '), ('FRAME', r'^takenStruct \(taken\.Frame .*\) =\s+'):
-        said['GATEWAY_' + name] = int(re.search(start + r'record \{ number = \w+; kind = (\d+);', texts['fields'], flags=re.M).group(1))
+    for name, start in ('NOTHING', 'nothingTaken number'), ('FRAME', r'takenStruct \(taken\.Frame x\)'), ('REQUEST', r'takenStruct \(taken\.Request x\)'):
+        said['GATEWAY_' + name] = int(re.search(rf'^{start} =\s+record \{{\s+number = \w+;\s+kind = (\d+);', texts['fields'], flags=re.M).group(1))
     timeouts = re.search(r'^expiredReport a r = pick \(.*\) (\d) (\d)$', texts['tick'], flags=re.M)
     said['GATEWAY_LONG_TIMEOUT'], said['GATEWAY_SHORT_TIMEOUT'] = int(timeouts.group(1)), int(timeouts.group(2))
+    for name, number in re.findall(r'^silenceNumber silence\.(\w+) = (\d+)$', texts['answers'], flags=re.M):
+        say(f'GATEWAY_{upper(name)}_TIMEOUT', number)
     return said
 
 
@@ -113,24 +119,28 @@ def differences(texts):
             seen.append(f'{name}: the definitions say {said.get(name)}, the header {defined.get(name)}')
     words = {int(n): w for n, w in re.findall(r'^\| (\d+) \| ([^|]+?) \|', texts['page'], flags=re.M)}
     beside = {int(n): w for w, n in re.findall(r'^/\* (.+) \*/\n#define GATEWAY_REFUSED_\w+ (\d+)$', texts['header'], flags=re.M)}
-    for number in range(1, 16):
+    for number in range(1, 17):
         if number not in words or words.get(number) != beside.get(number):
             seen.append(f'refusal {number}: docs/REFUSALS.md says "{words.get(number)}", the header "{beside.get(number)}"')
     return seen
 
 
 PLANTED = [
-    ('two arguments exchanged', 'header', 'size_t node, uint32_t id,', 'uint32_t id, size_t node,'),
+    ('two arguments exchanged', 'header', 'gateway_receive(uint8_t *area, size_t area_length, size_t node, uint32_t id,',
+     'gateway_receive(uint8_t *area, size_t area_length, uint32_t id, size_t node,'),
+    ('a checksum before the payload', 'header', 'const uint8_t *payload, size_t payload_length, uint8_t checksum',
+     'uint8_t checksum, const uint8_t *payload, size_t payload_length'),
     ('two slices exchanged', 'header', 'uint8_t *area, size_t area_length, uint8_t *report, size_t report_length',
      'uint8_t *report, size_t report_length, uint8_t *area, size_t area_length'),
     ('an argument too few', 'header', 'size_t area_length, size_t node);', 'size_t area_length);'),
-    ('a length lost', 'header', 'const uint8_t *payload, size_t payload_length', 'const uint8_t *payload'),
-    ('another width', 'header', 'uint32_t id, const', 'uint16_t id, const'),
+    ('a length lost', 'header', 'const uint8_t *payload, size_t payload_length);', 'const uint8_t *payload);'),
+    ('another width', 'header', 'size_t node, uint32_t id);', 'size_t node, uint16_t id);'),
+    ('another width of a checksum', 'header', 'size_t payload_length, uint8_t checksum', 'size_t payload_length, uint16_t checksum'),
     ('another width of an answer', 'header', 'uint16_t gateway_tick', 'uint32_t gateway_tick'),
     ('another struct answered', 'header', 'struct gateway_taken gateway_take', 'struct gateway_opened gateway_take'),
     ('another struct as an argument', 'header', 'struct gateway_taken taken', 'struct gateway_opened taken'),
     ('a pointer for a struct', 'header', 'struct gateway_taken taken', 'struct gateway_taken *taken'),
-    ('two fields exchanged', 'header', '    uint16_t tx;\n    uint16_t size;\n', '    uint16_t size;\n    uint16_t tx;\n'),
+    ('two fields exchanged', 'header', '    uint8_t kind;\n    uint8_t size;\n', '    uint8_t size;\n    uint8_t kind;\n'),
     ('another width of a field', 'header', '    uint32_t id;\n', '    uint16_t id;\n'),
     ('a field missing', 'header', '    uint16_t waiting;\n', ''),
     ('a field more', 'header', '    uint16_t waiting;\n', '    uint16_t waiting;\n    uint16_t node;\n'),
@@ -140,20 +150,26 @@ PLANTED = [
     ('a function not declared', 'header', 'uint16_t gateway_tick(', 'uint16_t gateway_tock('),
     ('another refusal number', 'header', 'GATEWAY_REFUSED_NO_NODE 12', 'GATEWAY_REFUSED_NO_NODE 15'),
     ('another answer number', 'header', 'GATEWAY_NO_ROW 1', 'GATEWAY_NO_ROW 2'),
+    ('another number of a wrong checksum', 'header', 'GATEWAY_WRONG_SUM 3', 'GATEWAY_WRONG_SUM 2'),
     ('another number of a kind', 'header', 'GATEWAY_FRAME 1', 'GATEWAY_FRAME 2'),
+    ('another number of a request', 'header', 'GATEWAY_REQUEST 2', 'GATEWAY_REQUEST 3'),
     ('another report byte', 'header', 'GATEWAY_LONG_TIMEOUT 2', 'GATEWAY_LONG_TIMEOUT 3'),
     ('another area size', 'header', 'GATEWAY_AREA_SIZE 32768', 'GATEWAY_AREA_SIZE 32767'),
     ('other words', 'header', '/* no such Tx frame */', '/* no such Rx frame */'),
-    ('another width in the source', 'source', 'id: u32', 'id: u64'),
+    ('other words of the last refusal', 'header', '/* a reception on a LIN node; a response', '/* a reception on a LIN node, or a response'),
+    ('another width in the source', 'source', 'node: usize, id: u32)', 'node: usize, id: u64)'),
     ('an argument more in the source', 'source', 'tx: usize)', 'tx: usize, rx: usize)'),
     ('a slice that is written in the source', 'source', 'plan: &[u8]', 'plan: &mut [u8]'),
     ('another struct in the source', 'source', 'node: usize) -> GatewayTaken', 'node: usize) -> GatewayOpened'),
-    ('two fields exchanged in the source', 'structs', '    pub tx: u16,\n    pub rx: u16,\n', '    pub rx: u16,\n    pub tx: u16,\n'),
+    ('two fields exchanged in the source', 'structs', '    pub at: u16,\n    pub size: u16,\n', '    pub size: u16,\n    pub at: u16,\n'),
     ('another width of a field in the source', 'structs', '    pub id: u32,\n', '    pub id: u64,\n'),
     ('a field missing in the source', 'structs', '    pub waiting: u16,\n', ''),
     ('a struct that is not laid out as C does', 'structs', '#[repr(C)]\npub struct GatewayPayload', 'pub struct GatewayPayload'),
     ('another area size in the definitions', 'shortest', 'shortestArea = 32768', 'shortestArea = 32767'),
-    ('another number of a kind in the definitions', 'fields', 'record { number = 0; kind = 1;', 'record { number = 0; kind = 2;'),
+    ('another number of a kind in the definitions', 'fields', 'kind = 1;', 'kind = 2;'),
+    ('another number of a request in the definitions', 'fields', 'kind = 2;', 'kind = 1;'),
+    ('an answer of two numbers in the definitions', 'answers', 'respondedNumber responded.TooShort = 2', 'respondedNumber responded.TooShort = 1'),
+    ('a timeout of two numbers in the definitions', 'answers', 'silenceNumber silence.Long = 2', 'silenceNumber silence.Long = 1'),
     ('another number in the definitions', 'answers', 'refusalNumber NotOpen = 11', 'refusalNumber NotOpen = 12'),
 ]
 

@@ -13,7 +13,7 @@ for file in examples/c/*.c tests/c/*.c; do
     $clang -std=c99 "$file" || { echo "$file is refused as C"; exit 1; }
 done
 
-for example in listing driver; do
+for example in listing driver pumps; do
     tools/run-c examples/c/$example.c 2>/dev/null | cmp - examples/c/$example.txt || { echo "examples/c/$example.c does not print its lines"; exit 1; }
 done
 python3 - <<'P' || { echo "docs/DRIVER.md shows what examples/c/driver.c does not have"; exit 1; }
@@ -24,8 +24,8 @@ sys.exit(not blocks or not all(block in code for block in blocks))
 P
 
 # the page's examples of refusals 1 to 9, as hex, number and record
-mapfile -t refused < <(sed -nE 's/^\| ([1-9]) \|.*\| `([0-9a-f ]+)` \| ([0-9]+) \|$/\2;\1;\3/p' docs/REFUSALS.md | tr -d ' ' | tr ';' '\n')
-[ ${#refused[@]} -eq 27 ] || { echo "docs/REFUSALS.md: ${#refused[@]} words of examples, and not 27"; exit 1; }
+mapfile -t refused < <(sed -nE 's/^\| ([1-9])( on LIN)? \|.*\| `([0-9a-f ]+)` \| ([0-9]+) \|$/\3;\1;\4/p' docs/REFUSALS.md | tr -d ' ' | tr ';' '\n')
+[ ${#refused[@]} -eq 39 ] || { echo "docs/REFUSALS.md: ${#refused[@]} words of examples, and not 39"; exit 1; }
 tools/run-c tests/c/answers.c "${refused[@]}" || exit 1
 
 # a marked area that no calls here left

@@ -7,15 +7,16 @@ import re, subprocess, sys
 tried = 0
 for line in open('docs/REFUSALS.md', encoding='utf-8'):
     cells = [c.strip() for c in line.split('|')]
-    if len(cells) < 7 or not cells[1].isdigit() or not cells[4].startswith('`'):
+    number = re.fullmatch(r'(\d+)(?: on LIN)?', cells[1]) if len(cells) >= 7 else None
+    if not number or not cells[4].startswith('`'):
         continue
     plan = bytes.fromhex(cells[4].strip('`'))
-    said = f'plan refused {cells[1]} {cells[5]}\n'
+    said = f'plan refused {number[1]} {cells[5]}\n'
     got = subprocess.run([sys.argv[1]], input=len(plan).to_bytes(2, 'big') + plan, capture_output=True).stdout.decode()
     tried += 1
     if got != said:
         sys.exit(f'refusal {cells[1]}: the page says {said!r}, the second program {got!r}')
-if tried != 9:
-    sys.exit(f'{tried} examples, and not 9')
+if tried != 13:
+    sys.exit(f'{tried} examples, and not 13')
 print(f'{tried} examples as the page says')
 P

@@ -1,5 +1,5 @@
 #!/usr/bin/env bash
-# Sentences and cases of document 01 one by one, on the proved bench program: those that no other test runs by itself.
+# Sentences and cases of documents 01 and 02 one by one, on the proved bench program: those that no other test runs by itself.
 set -u -o pipefail
 # says SENTENCE PLAN EVENTS LINES: the program writes these lines, given with / between them.
 says() {
@@ -67,6 +67,77 @@ says 'a fix has no bound where the reload value is 0' "$(source 00 01)" "11 $got
     'plan ok 1 1 1/tick 0/rx 0/tick 0/tick 0/tick 0/tick 0/take 0 256 2 2c00 0'
 says 'a fix has no bound where the indicator is off' "$(source 02 00)" "11 $got 11 11 11 11 12 00" \
     'plan ok 1 1 1/tick 0/rx 0/tick 0/tick 0/tick 0/tick 1/take 0 256 2 2c00 0'
+# Ticket 2. Node 0 is CAN, node 1 LIN. Tx frame 0 on CAN goes out at each tick; Rx frame 0 on LIN has ID 01 and one byte, is asked for each second
+# tick, has its failure bit in the last bit of Tx frame 0, and long count 2. C1 is the protected identifier of 01, and C1 + 2C = ED, inverted 12.
+lin='02 01'
+logger="03 00 0100 02 01 01 01 00 $none"
+asked() { printf '04 01 %s 01 01 02 02 %s 0f %s' "$1" "$2" "$3"; }
+pump="$head $node $lin $logger $(asked 0001 01 02) 05 00 08 06 0000 00"
+answer='14 01 0001 01 2c00000000000000 12'; silent='15 01 0001'
+says 'LIN nodes follow all CAN nodes' "$head $node $node $lin $lin" '' 'plan ok 4 0 0'
+says 'a plan may have LIN nodes alone' "$head $lin" '' 'plan ok 1 0 0'
+says 'a CAN node after a LIN node is refusal 3' "$head $node $lin $node" '' 'plan refused 3 3'
+says 'a type that does not exist is refusal 5, also after a LIN node' "$head $lin 02 02" '' 'plan refused 5 2'
+says 'IDs on LIN run 0 to 59, sizes 1 to 8' \
+    "$head $lin 03 00 0000 08 01 00 00 00 $none 03 00 003b 01 01 00 00 00 $none 04 00 0000 01 01 00 00 00 00 00 04 00 003b 08 01 00 00 00 00 00" '' \
+    'plan ok 1 2 2'
+says 'an Rx frame with ID 60 on LIN is refusal 5' "$head $lin 04 00 003c 01 01 00 00 00 00 00" '' 'plan refused 5 2'
+says 'a Tx frame with ID 60 on LIN is refusal 5' "$head $lin 03 00 003c 01 01 00 00 00 $none" '' 'plan refused 5 2'
+says 'an Rx frame of size 0 on LIN is refusal 5' "$head $lin 04 00 0001 00 01 00 00 00 00 00" '' 'plan refused 5 2'
+says 'a Tx frame of size 0 on LIN is refusal 5' "$head $lin 03 00 0001 00 01 00 00 00 $none" '' 'plan refused 5 2'
+says 'size 9 on LIN is refusal 5' "$head $lin 04 00 0001 09 01 00 00 00 00 00" '' 'plan refused 5 2'
+says 'beside a LIN node, a CAN node has ID 60 and size 0' "$head $node $lin 04 00 003c 00 01 00 00 00 00 00" '' 'plan ok 2 0 1'
+says 'expiry queues a request, once while it waits' "$pump" '11 11 11 11 12 01 12 01' \
+    'plan ok 2 1 1/tick 0/tick 0/tick 0/tick 0/take request 0 1 1 0/take none'
+says 'a request that was taken joins again' "$pump" '11 11 12 01 11 11 12 01' \
+    'plan ok 2 1 1/tick 0/tick 0/take request 0 1 1 0/tick 0/tick 0/take request 0 1 1 0'
+says 'at a request bit and long counter stay' "$pump" "11 11 11 11 12 00 $silent $silent" \
+    'plan ok 2 1 1/tick 0/tick 0/tick 0/tick 0/take 0 256 2 0000 0/silent 1/silent 2'
+says 'the period of a poll is reload times prescaler' "$head $lin 04 00 0001 01 0a 02 01 00 00 00" \
+    "11 12 00 $(printf '11 %.0s' {1..19}) 12 00 11 12 00" \
+    "plan ok 1 0 1/tick 0/take request 0 1 1 0$(printf '/tick 0%.0s' {1..19})/take none/tick 0/take request 0 1 1 0"
+says 'requests join after the Tx frames of the tick, in number order, and all are counted' \
+    "$head $lin 03 00 0003 01 01 02 02 00 $none 04 00 0001 01 01 02 02 00 00 00 04 00 0002 01 01 02 02 00 00 00" '11 11 12 00 12 00 12 00 12 00' \
+    'plan ok 1 1 2/tick 0 0/tick 0 0/take 0 3 1 00 2/take request 0 1 1 1/take request 1 2 1 0/take none'
+# by the checksum of one byte 00: 80, C1, 42 and FB are the protected identifiers of 00, 01, 02 and 3B
+rows=$(for id in 0000 0001 0002 003b; do printf '04 00 %s 01 01 00 00 00 00 00 ' "$id"; done)
+zero() { printf ' 14 00 %s 01 0000000000000000 %s' "$1" "$2"; }
+says 'the protected identifier' "$head $lin $rows" "$(zero 0000 7f)$(zero 0001 3e)$(zero 0002 bd)$(zero 003b 04)" 'plan ok 1 0 4/rx 0/rx 0/rx 0/rx 0'
+says 'the checksum is not of the plain ID' "$head $lin $rows" "$(zero 0000 ff)$(zero 0001 fe)$(zero 0002 fd)$(zero 003b c4)" \
+    'plan ok 1 0 4/rx 3/rx 3/rx 3/rx 3'
+says 'bit 6 and bit 7 are both in it' "$head $lin $rows" "$(zero 0001 7e)$(zero 0001 be)" 'plan ok 1 0 4/rx 3/rx 3'
+says '4A 55 93 E5 gives E6, where 42 and 08 make the 4A' "$head $lin 04 00 0002 04 01 00 00 00 00 00" \
+    '14 00 0002 04 085593e500000000 e6 14 00 0002 04 085593e500000000 e5 14 00 0002 04 085593e500000000 e7' 'plan ok 1 0 1/rx 0/rx 3/rx 3'
+says 'the checksum is of every byte handed in' "$pump" '14 01 0001 02 2c01000000000000 11 14 01 0001 02 2c01000000000000 12' 'plan ok 2 1 1/rx 0/rx 3'
+says 'and of no byte past the length' "$pump" '14 01 0001 01 2c01000000000000 12 14 01 0001 01 2c01000000000000 11' 'plan ok 2 1 1/rx 0/rx 3'
+says 'a response is copied, clears the failure bit and starts the long counter again' "$pump" "$silent $answer 11 12 00 $silent $silent" \
+    'plan ok 2 1 1/silent 1/rx 0/tick 0/take 0 256 2 2c00 0/silent 1/silent 2'
+says 'a wrong checksum is answer 3 and changes nothing' "$pump" "$silent 14 01 0001 01 2c00000000000000 13 11 12 00 $silent" \
+    'plan ok 2 1 1/silent 1/rx 3/tick 0/take 0 256 2 0001 0/silent 2'
+says 'a payload that is too short is answer 2, whatever its checksum' "$pump" '14 01 0001 00 0000000000000000 3e 14 01 0001 00 0000000000000000 00' \
+    'plan ok 2 1 1/rx 2/rx 2'
+says 'a response does not reload a LIN timer' "$pump" "11 $answer 11 12 01" 'plan ok 2 1 1/tick 0/rx 0/tick 0/take request 0 1 1 0'
+says 'nor does no response' "$pump" "11 $silent 11 12 01" 'plan ok 2 1 1/tick 0/silent 1/tick 0/take request 0 1 1 0'
+says 'a request waits on where a response comes unasked, or none' "$pump" "11 11 $answer $silent 12 01" \
+    'plan ok 2 1 1/tick 0/tick 0/rx 0/silent 1/take request 0 1 1 0'
+says 'no response sets the failure bit and answers as a report would' "$pump" "$silent $silent $silent $silent 11 12 00" \
+    'plan ok 2 1 1/silent 1/silent 2/silent 1/silent 2/tick 0/take 0 256 2 0001 0'
+says 'no response with a long count of 0 answers 1' "$head $node $lin $logger $(asked 0001 01 00) 05 00 08 06 0000 00" "$silent $silent $silent" \
+    'plan ok 2 1 1/silent 1/silent 1/silent 1'
+says 'no response sets no bit where the indicator is off' "$head $node $lin $logger $(asked 0001 00 02) 05 00 08 06 0000 00" "$silent 11 12 00" \
+    'plan ok 2 1 1/silent 1/tick 0/take 0 256 2 0000 0'
+says 'no response is of its own row alone' "$head $node $lin $(asked 0001 00 02) $(asked 0002 00 02)" "$silent 15 01 0002 $silent" \
+    'plan ok 2 0 2/silent 1/silent 1/silent 2'
+says 'a response gives 12, then 16, then 13' "$pump" \
+    "14 02 0001 09 $none 00 14 00 0001 09 $none 00 14 01 0002 09 $none 00 14 01 0001 09 $none 00" \
+    'plan ok 2 1 1/rx refused 12/rx refused 16/rx refused 16/rx refused 13'
+says 'no response gives 12, then 16' "$pump" '15 02 0001 15 00 0001 15 01 0002 15 01 003c' \
+    'plan ok 2 1 1/silent refused 12/silent refused 16/silent refused 16/silent refused 16'
+says 'the new calls go by the plain ID' "$pump" '14 01 00c1 01 2c00000000000000 12 15 01 00c1' 'plan ok 2 1 1/rx refused 16/silent refused 16'
+says 'the old reception gives 16 on a LIN node, after 12 and before 13' "$pump" \
+    "10 01 0001 01 2c00000000000000 10 01 0001 09 $none 10 02 0001 09 $none" 'plan ok 2 1 1/rx refused 16/rx refused 16/rx refused 12'
+says 'a cut response is bad' "$pump" '14 01 0001 01 2c00000000000000' 'plan ok 2 1 1/input bad'
+says 'a cut silence is bad' "$pump" '15 01 00' 'plan ok 2 1 1/input bad'
 # the last of 256 rows: its place is the highest that an acceptance writes
 rows=$(for id in {0..255}; do printf '04 00 %04x 01 01 01 01 00 00 02 ' "$id"; done)
 bytes() { printf " $1%.0s" {1..255}; }

@@ -16,6 +16,7 @@ sys.path.insert(0, 'tools')
 loader = importlib.machinery.SourceFileLoader('bench', 'tools/bench')
 bench = importlib.util.module_from_spec(importlib.util.spec_from_loader('bench', loader))
 loader.exec_module(bench)
+from view.lin import checksum
 
 
 def run(text, *options, program=os.environ['BENCH']):
@@ -46,6 +47,11 @@ def source(timer, *events):
     return '\n'.join([f'0100\n0200\n{sent}04 00 0020 01 {timer} 00\n05 00 08\n06 0000 00\n06 0001 00\nevents', *events, ''])
 
 
+def lin(*events):
+    """The plan with a LIN node, and events."""
+    return PUMP + '\n'.join([*events, ''])
+
+
 def lines(*answers):
     """A program that answers these lines, whatever it is asked."""
     return "printf '" + '\\n'.join(answers) + "\\n'"
@@ -64,7 +70,24 @@ RX = ('an Rx frame has 11 bytes: kind, node, ID (2), size, prescaler, reload, in
       'long count')
 ACCEPTED, TICK, TAKE = '10 00 0020 01 5500000000000000', '11', '12 00'
 WATCHED = '02 02 02 01 0f'  # prescaler 2, reload 2, initial timer 2, failure bit 15
-EVENT_KINDS = 'it is 10 (a reception), 11 (a tick) or 12 (a take)'
+EVENT_KINDS = 'it is 10 (a reception), 11 (a tick), 12 (a take), 14 (a response) or 15 (no response)'
+RESPONSE = 'a response has 14 bytes: kind, node, ID (2), length, data (8) whatever the length, checksum'
+# A CAN node, and a LIN node with a Tx frame and an Rx frame, both of one byte; the Tx frame on CAN has the Rx frame's byte and failure bit.
+PUMP = '''0100
+0200
+0201
+03 00 0100 02 01 01 01 00 0000000000000000
+03 01 0002 01 01 00 00 01 0000000000000000
+04 00 0020 01 01 00 00 00 00 00
+05 00 08
+06 0001 00
+04 01 0001 01 01 02 02 01 0f 02
+05 00 08
+06 0000 00
+events
+'''
+ANSWERED, SILENT, POLL = '14 01 0001 01 2c00000000000000 12', '15 01 0001', '12 01'
+WRONG_CALL = 'a reception on a LIN node; a response or "no response" where the node is not LIN or has no such Rx frame'
 
 # Texts that cannot be read: what is told, on one line. Nothing is shown, and the end is 1.
 for text, words in [
@@ -97,6 +120,8 @@ for text, words in [
      f'line 3: {TX}; here are 16, {EARLY}'),
     ('0100\n0200 02\n00\nevents\n', f'line 2: a node has 2 bytes: kind, type; here is 1, {EARLY}'),
     ('0100\n04 00\n0020 01\nevents\n', f'line 2: {RX}; here are 2, {EARLY}'),
+    ('0100\nevents\n14 01 0001 01 2c00000000000000\n12\n', f'line 3: {RESPONSE}; here are 13, {EARLY}'),
+    ('0100\nevents\n15 01 00\n01\n', f'line 3: no response has 4 bytes: kind, node, ID (2); here are 3, {EARLY}'),
 ]:
     if run(text) != (1, '', f'tools/bench: FILE: {words}\n'):
         sys.exit(f'{text[:60]!r}: {run(text)}, and not told {words!r}')
@@ -105,8 +130,9 @@ for text, words in [
 MANY = '0100\n0200\n' + ''.join(f'04 00 {frame:04x} 08 01 02 02 00 00 02\n' + 64 * '05 00 01\n' for frame in range(16)) + '07\nevents\n'
 for text, status, words in [
     ('0100\nevents\n', 0, '=> plan ok 0 0 0 good: 0 nodes, 0 Tx frames, 0 Rx frames'),
-    ('# a plan\n01 00\n\n02 01\nevents\n11\n', 1,
-     'refused 5 at record 1, line 4: a field is outside its range type is hex 01, and its range is hex 00 (CAN) 1 event not run'),
+    ('# a plan\n01 00\n\n02 02\nevents\n11\n', 1,
+     'refused 5 at record 1, line 4: a field is outside its range type is hex 02, and its range is hex 00 (CAN) or 01 (LIN) 1 event not run'),
+    ('0100\n0201\n0200\nevents\n', 1, 'refused 3 at record 2, line 3: the kind may not stand here, or a CAN node follows a LIN node'),
     ('0100\n\n02\nevents\n', 1, 'refused 1 at record 1, line 3: the input is empty, or the record runs past its end a node has 2 bytes: kind, type; here is 1'),
     ('events\n', 1, 'refused 1 at record 0: the input is empty, or the record runs past its end the plan is empty; the least is a head, 01 00'),
     ('0100\nevents\n11\n\n13 00\n', 1, f'input bad the run ends here, line 5: 13 is no kind: {EVENT_KINDS}'),
@@ -131,6 +157,30 @@ for text, status, words in [
      'from Rx frame 0: 0x55 accepted 3 ticks ago; no bound: failure bit in Tx frame 0'),
     (source('02 00 02 01 0f', ACCEPTED, *9 * [TICK], TAKE), 0, 'failure bit 0 accepted 9 ticks ago; no bound: its reload is 0'),
     (source('02 02 02 00 0f', ACCEPTED, *9 * [TICK], TAKE), 0, 'from Rx frame 0: 0x55 accepted 9 ticks ago; no bound: no failure bit'),
+    # LIN: the plan in words, requests, responses, silence, and refusal 16
+    (PUMP, 0, 'node 1: LIN, we are the master'),
+    (PUMP, 0, 'Tx frame 1: node 1, ID 0x002, protected 0x42, 1 byte, no period, sends on reception'),
+    (PUMP, 0, 'Rx frame 1: node 1, ID 0x001, protected 0xc1, 1 byte, asked for every 2 ticks, first at tick 1, long count 2, failure bit 15'),
+    (PUMP.replace('01 02 02 01 0f 02', '01 00 00 01 0f 00'), 0, 'protected 0xc1, 1 byte, never asked for, failure bit 15'),
+    (lin(TICK, TICK, POLL), 0, 'take request 1 1 1 0 request for Rx frame 1 (ID 0x001), none waits after it '
+                               'protected 0xc1; 1 byte and a checksum should come'),
+    (lin(TICK, TICK, ACCEPTED, POLL), 0, 'take request 1 1 1 1 request for Rx frame 1 (ID 0x001), 1 waits after it'),
+    (lin('10 00 0020 01 4a00000000000000', POLL), 0, 'Tx frame 1 (ID 0x002), none waits after it protected 0x42; checksum 0x73 from Rx frame 0: 0x4a'),
+    (lin(ANSWERED), 0, 'node 1 responds, ID 0x001 rx 0 accepted'),
+    (lin(ANSWERED), 0, 'checksum 0x12, protected 0xc1'),
+    (lin(ANSWERED[:-2] + '13'), 0, 'rx 3 not taken: the checksum is wrong'),
+    (lin(ANSWERED[:-2] + '13'), 0, 'the right one is 0x12, protected 0xc1'),
+    (lin('14 01 0001 02 2cff000000000000 12'), 0, 'rx 0 accepted'),  # FF changes no sum
+    (lin('14 01 0001 00 0000000000000000 3e'), 0, "rx 2 not taken: shorter than the row's size"),
+    (lin(SILENT), 0, 'node 1 silent, ID 0x001 silent 1 short timeout: Rx frame 1 (node 1, ID 0x001)'),
+    (lin(SILENT, TICK, SILENT), 0, 'silent 2 long timeout: Rx frame 1 (node 1, ID 0x001) 2 in a row'),
+    (lin(SILENT, ANSWERED, SILENT), 0, 'silent 1 short timeout: Rx frame 1 (node 1, ID 0x001)'),
+    (lin(ANSWERED, TICK, TAKE), 0, 'from Rx frame 1: 0x2c, failure bit 0'),
+    (lin('10 01 0001 01 2c00000000000000'), 0, f'rx refused 16 {WRONG_CALL}: node 1 is a LIN node'),
+    (lin('14 00 0020 01 2c00000000000000 12'), 0, 'has no such Rx frame: node 0 is a CAN node'),
+    (lin('15 00 0020'), 0, f'silent refused 16 {WRONG_CALL}: node 0 is a CAN node'),
+    (lin('15 01 00c1'), 0, f'{WRONG_CALL}: node 1 has no Rx frame with ID 0x0c1'),
+    (lin('15 02 0001'), 0, 'silent refused 12 no such node: there are nodes 0 to 1'),
     ('0100\nevents\n' + 3 * (30000 * '11' + '\n'), 1, '=> input bad the input passes 65,536 bytes in line 5'),
     (MANY, 1, ' 1041 05 00 01 signal: bit 0 1042 07 unknown kind 07: what follows cannot be read ^^ refused here => plan refused 2 1042 '),
     ('# one\x1b[2J\r\n0100\r\nevents\r\n', 0, '# one\\x1b[2J no record'),
@@ -177,12 +227,29 @@ for expected, got in [
      run(OLD, program=lines(*OLD_LINES[:-1], 'tick 3', 'take 0 256 2 5500 1'))),
     ((0, 'failure bit 0 no bound: not accepted since the opening', ''),
      run(OLD, program=lines(*OLD_LINES[:2], 'rx 2', *OLD_LINES[3:], 'take 0 256 2 5500 1'))),
+    *(((0, 'no line of the bench program', ''), run(lin(event), program=lines('plan ok 2 2 2', line))) for event, line in (
+        (ANSWERED, 'rx 1 0'), (ACCEPTED, 'rx 3'), (SILENT, 'silent 0'), (SILENT, 'rx 0'), (POLL, 'take request 2 1 1 0'),
+        (POLL, 'take request 1 2 1 0'), (POLL, 'take request 1 1 2 0'), (TAKE, 'take request 1 1 1 0'), ('15 01 0009', 'silent 1'))),
     *(((0, 'no line of the bench program', ''), run(OLD, program=lines(*OLD_LINES, line)))
       for line in ('take 0 256 1 55 1', 'take 0 256 2 550 1', 'take 0 256 0 - 1', f'take {5000 * "1"} 256 2 5500 1', 'take 0 256 2 5500')),
 ]:
     (status, words, message), (ended, shown, told) = expected, got
     if ended != status or words not in shown or bool(words) != bool(shown) or message not in told or bool(message) != bool(told):
         sys.exit(f'not {expected}: {got}')
+
+# The checksum that the view works out is the program's, for each ID.
+data = [bytes(pow(7, 3 * number + k, 257) % 256 for k in range(3)) for number in range(60)]
+rows = ''.join(f'04 00 {number:04x} 01 01 00 00 00 00 00\n' for number in range(60))
+responses = [f'14 00 {number:04x} 03 {bytes_.hex()}0000000000 {checksum(number, bytes_):02x}' for number, bytes_ in enumerate(data)]
+_, shown, _ = run('\n'.join(['0100\n0201', rows + 'events', *responses, '']), '--raw')
+if shown != 'plan ok 1 0 60' + 60 * ' rx 0':
+    sys.exit(f'checksums of the view that the program does not take: {shown}')
+
+# Of a LIN source no age is told, however many ticks have passed.
+for events in ([ANSWERED, TICK, TAKE], [ANSWERED, *9 * [TICK], TAKE], [TICK, TAKE]):
+    _, shown, _ = run(lin(*events))
+    if not re.search(r'from Rx frame 1: 0x.., failure bit 0$', shown):
+        sys.exit(f'{events}: words stand behind a LIN source: {shown[-200:]!r}')
 
 # A silent source, from each phase of its timer: the oldest value with failure bit 0 is one tick below the bound, and the failure bit is 1 after
 # (reload - 1) * prescaler + 1 ticks at the earliest.

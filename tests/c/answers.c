@@ -27,6 +27,24 @@ static const uint8_t source_plan[] = {
     6, 0, 0, 0,
 };
 
+/*
+ * Node 0 is CAN, node 1 LIN. Tx frame 0 on CAN is sent on reception; Tx frame 1 on LIN expires at ticks 1, 4 and 7. Both Rx frames are on LIN and are
+ * asked for at every second tick: ID 01 of one byte, which goes to both Tx frames and has long count 2 and the failure bit that is Tx frame 0's last;
+ * ID 3b of eight bytes, with neither.
+ */
+static const uint8_t lin_plan[] = {
+    1, 0,
+    2, 0,
+    2, 1,
+    3, 0, 0x01, 0x00, 2, 1, 0, 0, 1, 0, 0, 0, 0, 0, 0, 0, 0,
+    3, 1, 0x00, 0x02, 3, 1, 3, 1, 0, 0x55, 0x93, 0xe5, 0, 0, 0, 0, 0,
+    4, 1, 0x00, 0x01, 1, 1, 2, 2, 1, 15, 2,
+    5, 0, 8,
+    6, 0, 0, 0,
+    6, 0, 1, 0,
+    4, 1, 0x00, 0x3b, 8, 1, 2, 2, 0, 0, 0,
+};
+
 static uint8_t area[GATEWAY_AREA_SIZE + 1];
 static uint8_t report[GATEWAY_REPORT_SIZE];
 static const uint8_t payload[9];
@@ -54,14 +72,17 @@ static void expect_no_row(const char *what, size_t node, uint32_t id, unsigned p
     expect("the place", got.place, place);
 }
 
-static void expect_no_frame(const char *what, struct gateway_taken got, unsigned number)
+static void expect_nothing(const char *what, struct gateway_taken got, unsigned number)
 {
     expect(what, got.number, number);
     expect(what, got.kind, GATEWAY_NOTHING);
-    expect(what, got.tx, 0);
     expect(what, got.size, 0);
+    expect(what, got.tx, 0);
+    expect(what, got.rx, 0);
     expect(what, got.id, 0);
     expect(what, got.waiting, 0);
+    expect(what, got.protected_id, 0);
+    expect(what, got.checksum, 0);
 }
 
 static void expect_no_part(const char *what, struct gateway_payload got)
@@ -104,14 +125,53 @@ static void refused_plan(const char *hex, const char *refusal, const char *recor
     expect_not_opened("a refused plan", gateway_open(bytes, n, area, GATEWAY_AREA_SIZE), number(refusal), number(record));
 }
 
-static void expect_frame(struct gateway_taken got, unsigned tx, unsigned size, unsigned id, unsigned waiting)
+static void expect_taken(struct gateway_taken got, unsigned size, unsigned id, unsigned waiting)
 {
     expect("no refusal", got.number, 0);
-    expect("a frame", got.kind, GATEWAY_FRAME);
-    expect("Tx number", got.tx, tx);
     expect("size", got.size, size);
     expect("ID", got.id, id);
     expect("waiting", got.waiting, waiting);
+}
+
+static void expect_frame(struct gateway_taken got, unsigned tx, unsigned size, unsigned id, unsigned waiting)
+{
+    expect_taken(got, size, id, waiting);
+    expect("a frame", got.kind, GATEWAY_FRAME);
+    expect("Tx number", got.tx, tx);
+    expect("a frame has no Rx number", got.rx, 0);
+}
+
+static void expect_can_frame(struct gateway_taken got, unsigned tx, unsigned size, unsigned id, unsigned waiting)
+{
+    expect_frame(got, tx, size, id, waiting);
+    expect("no protected identifier on CAN", got.protected_id, 0);
+    expect("no checksum on CAN", got.checksum, 0);
+}
+
+/* The oldest that waits on LIN node 1. */
+static void expect_request(unsigned rx, unsigned size, unsigned id, unsigned waiting, unsigned protected_id)
+{
+    struct gateway_taken got = gateway_take(area, GATEWAY_AREA_SIZE, 1);
+    expect_taken(got, size, id, waiting);
+    expect("a request", got.kind, GATEWAY_REQUEST);
+    expect("Rx number", got.rx, rx);
+    expect("a request has no Tx number", got.tx, 0);
+    expect("the protected identifier", got.protected_id, protected_id);
+    expect("a request has no checksum", got.checksum, 0);
+    expect_no_part("payload of a request", gateway_payload(area, GATEWAY_AREA_SIZE, got));
+}
+
+static void expect_lin_frame(uint8_t first, unsigned waiting, unsigned checksum)
+{
+    struct gateway_taken got = gateway_take(area, GATEWAY_AREA_SIZE, 1);
+    expect_frame(got, 1, 3, 0x02, waiting);
+    expect("the protected identifier", got.protected_id, 0x42);
+    expect("the checksum", got.checksum, checksum);
+    struct gateway_payload part = gateway_payload(area, GATEWAY_AREA_SIZE, got);
+    expect("payload size on LIN", part.size, 3);
+    expect("payload byte 0", area[part.at], first);
+    expect("payload byte 1", area[part.at + 1], 0x93);
+    expect("payload byte 2", area[part.at + 2], 0xe5);
 }
 
 /* The second and the last frame of four, on node 1: no two fields have the same value in both. */
@@ -119,7 +179,7 @@ static void frames(void)
 {
     gateway_take(area, GATEWAY_AREA_SIZE, 1);
     struct gateway_taken taken = gateway_take(area, GATEWAY_AREA_SIZE, 1);
-    expect_frame(taken, 1, 5, 0x456, 2);
+    expect_can_frame(taken, 1, 5, 0x456, 2);
     struct gateway_payload part = gateway_payload(area, GATEWAY_AREA_SIZE, taken);
     expect("where the payload begins", part.at, 6392);
     expect("payload size", part.size, 5);
@@ -127,20 +187,22 @@ static void frames(void)
         expect("payload byte", area[part.at + i], i == 1 ? 0x01 : 0xa0 + i);
     expect_no_part("payload, one byte short", gateway_payload(area, GATEWAY_AREA_SIZE - 1, taken));
     gateway_take(area, GATEWAY_AREA_SIZE, 1);
-    expect_frame(gateway_take(area, GATEWAY_AREA_SIZE, 1), 3, 8, 0x7ff, 0);
+    expect_can_frame(gateway_take(area, GATEWAY_AREA_SIZE, 1), 3, 8, 0x7ff, 0);
     taken = gateway_take(area, GATEWAY_AREA_SIZE, 1);
-    expect_no_frame("none left", taken, 0);
+    expect_nothing("none left", taken, 0);
     expect_no_part("payload of none", gateway_payload(area, GATEWAY_AREA_SIZE, taken));
 }
 
 /* Structs that no take answers: the kind alone says whether there is a payload, and the part lies in the area. */
 static void made_up(void)
 {
-    struct gateway_taken taken = {GATEWAY_REFUSED_NO_NODE, GATEWAY_FRAME, 0xff02, 0xfff3, 0xffffffff, 0xffff};
+    struct gateway_taken taken = {GATEWAY_REFUSED_NO_NODE, GATEWAY_FRAME, 0xf3, 0xff02, 0xffff, 0xffffffff, 0xffff, 0xff, 0xff};
     struct gateway_payload part = gateway_payload(area, GATEWAY_AREA_SIZE, taken);
     expect("payload of a frame made up", part.at, 6400);
     expect("size of a frame made up", part.size, 3);
-    taken.kind = 0x0101;
+    taken.kind = GATEWAY_REQUEST;
+    expect_no_part("payload of a request made up", gateway_payload(area, GATEWAY_AREA_SIZE, taken));
+    taken.kind = 0x81;
     expect_no_part("another kind", gateway_payload(area, GATEWAY_AREA_SIZE, taken));
 }
 
@@ -154,7 +216,7 @@ static void ages(void)
     for (int i = 0; i < 5; i++)
         expect("a refused tick", gateway_tick(area, GATEWAY_AREA_SIZE, report, 0), GATEWAY_REFUSED_SHORT_REPORT);
     struct gateway_taken taken = gateway_take(area, GATEWAY_AREA_SIZE, 0);
-    expect_frame(taken, 0, 2, 0x100, 0);
+    expect_can_frame(taken, 0, 2, 0x100, 0);
     size_t at = gateway_payload(area, GATEWAY_AREA_SIZE, taken).at;
     expect("the value", area[at], 0x2c);
     expect("failure bit after one tick and refused ones", area[at + 1], 0);
@@ -165,6 +227,99 @@ static void ages(void)
     expect("failure bit since the opening", area[at + 1], 0);
 }
 
+static unsigned respond(size_t node, uint32_t id, const uint8_t *bytes, size_t length, uint8_t checksum)
+{
+    return gateway_respond(area, GATEWAY_AREA_SIZE, node, id, bytes, length, checksum);
+}
+
+static unsigned no_response(size_t node, uint32_t id) { return gateway_no_response(area, GATEWAY_AREA_SIZE, node, id); }
+
+/* The tick of this number, from 1: on LIN the report says nothing. */
+static void lin_tick(unsigned number)
+{
+    report[0] = report[1] = 0x5a;
+    expect("a tick with LIN", gateway_tick(area, GATEWAY_AREA_SIZE, report, sizeof report), 0);
+    if (report[0] != 0 || report[1] != 0) {
+        printf("tick %u: the report is %u %u\n", number, report[0], report[1]);
+        wrong++;
+    }
+}
+
+/* What is refused or not accepted on LIN, with the area as it stands: it does not change. */
+static void lin_unchanged(void)
+{
+    static const uint8_t value[9] = {0x2c, 0x01};
+    static uint8_t before[GATEWAY_AREA_SIZE];
+    for (size_t i = 0; i < sizeof before; i++)
+        before[i] = area[i];
+    expect_received("a reception on LIN", gateway_receive(area, GATEWAY_AREA_SIZE, 1, 0x01, value, 1), GATEWAY_REFUSED_WRONG_CALL);
+    expect_received("16 before 13", gateway_receive(area, GATEWAY_AREA_SIZE, 1, 0x01, value, 9), GATEWAY_REFUSED_WRONG_CALL);
+    expect("a response, one byte short", gateway_respond(area, GATEWAY_AREA_SIZE - 1, 1, 0x01, value, 1, 0x12), GATEWAY_REFUSED_NOT_OPEN);
+    expect("a response, no such node", respond(2, 0x01, value, 9, 0x12), GATEWAY_REFUSED_NO_NODE);
+    expect("a response on CAN", respond(0, 0x01, value, 9, 0x12), GATEWAY_REFUSED_WRONG_CALL);
+    expect("a response without a row", respond(1, 0x02, value, 9, 0x12), GATEWAY_REFUSED_WRONG_CALL);
+    expect("a response with the protected identifier", respond(1, 0xc1, value, 1, 0x12), GATEWAY_REFUSED_WRONG_CALL);
+    expect("a response with an ID of more than two bytes", respond(1, 0x10001, value, 1, 0x12), GATEWAY_REFUSED_WRONG_CALL);
+    expect("a long response", respond(1, 0x01, value, 9, 0x11), GATEWAY_REFUSED_LONG_PAYLOAD);
+    expect("a short response", respond(1, 0x01, value, 0, 0x3e), GATEWAY_TOO_SHORT);
+    expect("a short response with a wrong checksum", respond(1, 0x01, value, 0, 0x3f), GATEWAY_TOO_SHORT);
+    expect("a wrong checksum", respond(1, 0x01, value, 1, 0x13), GATEWAY_WRONG_SUM);
+    expect("the checksum of the data alone", respond(1, 0x01, value, 1, 0xd3), GATEWAY_WRONG_SUM);
+    expect("the checksum of the size's bytes", respond(1, 0x01, value, 2, 0x12), GATEWAY_WRONG_SUM);
+    expect("no response, one byte short", gateway_no_response(area, GATEWAY_AREA_SIZE - 1, 1, 0x01), GATEWAY_REFUSED_NOT_OPEN);
+    expect("no response, no such node", no_response(2, 0x01), GATEWAY_REFUSED_NO_NODE);
+    expect("no response on CAN", no_response(0, 0x01), GATEWAY_REFUSED_WRONG_CALL);
+    expect("no response without a row", no_response(1, 0x3c), GATEWAY_REFUSED_WRONG_CALL);
+    for (size_t i = 0; i < sizeof before; i++)
+        expect("a byte of the area", area[i], before[i]);
+}
+
+/* Ticket 2: requests, responses with their checksums, and "no response". */
+static void lin(void)
+{
+    static const uint8_t value[2] = {0x2c, 0x01};
+    static const uint8_t zeros[8];
+    struct gateway_opened opened = gateway_open(lin_plan, sizeof lin_plan, area, GATEWAY_AREA_SIZE);
+    expect("LIN nodes", opened.nodes, 2);
+    expect("Rx frames on LIN", opened.rx, 2);
+    lin_unchanged();
+    expect_nothing("nothing waits on LIN", gateway_take(area, GATEWAY_AREA_SIZE, 1), 0);
+    lin_tick(1);
+    expect_lin_frame(0x55, 0, 0xee);
+    lin_tick(2);
+    expect_request(0, 1, 0x01, 1, 0xc1);
+    expect_request(1, 8, 0x3b, 0, 0xfb);
+    expect_nothing("both are taken", gateway_take(area, GATEWAY_AREA_SIZE, 1), 0);
+
+    expect("a response", respond(1, 0x01, value, 1, 0x12), GATEWAY_ACCEPTED);
+    expect("a response of eight bytes", respond(1, 0x3b, zeros, 8, 0x04), GATEWAY_ACCEPTED);
+    struct gateway_taken taken = gateway_take(area, GATEWAY_AREA_SIZE, 0);
+    expect_can_frame(taken, 0, 2, 0x100, 0);
+    size_t at = gateway_payload(area, GATEWAY_AREA_SIZE, taken).at;
+    expect("the value from LIN", area[at], 0x2c);
+    expect("failure bit after a response", area[at + 1], 0);
+    lin_tick(3);
+    expect_nothing("a response reloads no timer, and none is due", gateway_take(area, GATEWAY_AREA_SIZE, 1), 0);
+    lin_tick(4);
+    expect_lin_frame(0x2c, 2, 0x18);
+    lin_tick(5);
+    lin_tick(6);
+    expect_request(0, 1, 0x01, 1, 0xc1);
+    lin_unchanged();
+    expect_request(1, 8, 0x3b, 0, 0xfb);
+
+    expect("no response", no_response(1, 0x01), GATEWAY_SHORT_TIMEOUT);
+    expect("failure bit after no response", area[at + 1], 1);
+    expect("no response, two in a row", no_response(1, 0x01), GATEWAY_LONG_TIMEOUT);
+    expect("no response, the count begins again", no_response(1, 0x01), GATEWAY_SHORT_TIMEOUT);
+    lin_unchanged();
+    expect("the checksum of every byte handed in", respond(1, 0x01, value, 2, 0x11), GATEWAY_ACCEPTED);
+    expect("failure bit after the response", area[at + 1], 0);
+    expect("no response after a response", no_response(1, 0x01), GATEWAY_SHORT_TIMEOUT);
+    for (int i = 0; i < 3; i++)
+        expect("no response without a long count", no_response(1, 0x3b), GATEWAY_SHORT_TIMEOUT);
+}
+
 int main(int count, char **arguments)
 {
     for (int i = 1; i + 2 < count; i += 3)
@@ -173,7 +328,9 @@ int main(int count, char **arguments)
     expect_not_opened("a short area", gateway_open(plan, sizeof plan, area, GATEWAY_AREA_SIZE - 1), GATEWAY_REFUSED_SHORT_AREA, 0);
     expect("tick, not open", gateway_tick(area, GATEWAY_AREA_SIZE, report, sizeof report), GATEWAY_REFUSED_NOT_OPEN);
     expect_received("receive, not open", gateway_receive(area, GATEWAY_AREA_SIZE, 0, 0x20, payload, 1), GATEWAY_REFUSED_NOT_OPEN);
-    expect_no_frame("take, not open", gateway_take(area, GATEWAY_AREA_SIZE, 0), GATEWAY_REFUSED_NOT_OPEN);
+    expect_nothing("take, not open", gateway_take(area, GATEWAY_AREA_SIZE, 0), GATEWAY_REFUSED_NOT_OPEN);
+    expect("a response, not open", respond(0, 0x20, payload, 1, 0), GATEWAY_REFUSED_NOT_OPEN);
+    expect("no response, not open", no_response(0, 0x20), GATEWAY_REFUSED_NOT_OPEN);
     expect_no_bits("fullness, not open", gateway_fullness(area, GATEWAY_AREA_SIZE, 0), GATEWAY_REFUSED_NOT_OPEN);
 
     area[GATEWAY_AREA_SIZE] = 0x5a;
@@ -186,14 +343,14 @@ int main(int count, char **arguments)
     expect("the byte past the area", area[GATEWAY_AREA_SIZE], 0x5a);
     expect("tick, one byte short", gateway_tick(area, GATEWAY_AREA_SIZE - 1, report, sizeof report), GATEWAY_REFUSED_NOT_OPEN);
     expect_received("receive, one byte short", gateway_receive(area, GATEWAY_AREA_SIZE - 1, 0, 0x20, payload, 1), GATEWAY_REFUSED_NOT_OPEN);
-    expect_no_frame("take, one byte short", gateway_take(area, GATEWAY_AREA_SIZE - 1, 0), GATEWAY_REFUSED_NOT_OPEN);
+    expect_nothing("take, one byte short", gateway_take(area, GATEWAY_AREA_SIZE - 1, 0), GATEWAY_REFUSED_NOT_OPEN);
     expect_no_bits("fullness, one byte short", gateway_fullness(area, GATEWAY_AREA_SIZE - 1, 0), GATEWAY_REFUSED_NOT_OPEN);
 
     struct gateway_fullness fullness = gateway_fullness(area, GATEWAY_AREA_SIZE, 1);
     expect("fullness", fullness.bits, 3);
     expect("a frame that exists", fullness.number, 0);
     expect_no_bits("no such Tx frame", gateway_fullness(area, GATEWAY_AREA_SIZE, 4), GATEWAY_REFUSED_NO_FRAME);
-    expect_no_frame("no such node", gateway_take(area, GATEWAY_AREA_SIZE, 2), GATEWAY_REFUSED_NO_NODE);
+    expect_nothing("no such node", gateway_take(area, GATEWAY_AREA_SIZE, 2), GATEWAY_REFUSED_NO_NODE);
     expect_received("a long payload", gateway_receive(area, GATEWAY_AREA_SIZE, 0, 0x20, payload, 9), GATEWAY_REFUSED_LONG_PAYLOAD);
     expect("a short report", gateway_tick(area, GATEWAY_AREA_SIZE, report, 0), GATEWAY_REFUSED_SHORT_REPORT);
     expect_received("accepted", gateway_receive(area, GATEWAY_AREA_SIZE, 0, 0x20, payload, 8), GATEWAY_ACCEPTED);
@@ -207,7 +364,7 @@ int main(int count, char **arguments)
     expect("tick", gateway_tick(area, GATEWAY_AREA_SIZE, report, sizeof report), 0);
     expect("a short timeout", report[0], GATEWAY_SHORT_TIMEOUT);
     expect("the report's further bytes", report[1], 0x5a);
-    expect_no_frame("nothing waits on node 0", gateway_take(area, GATEWAY_AREA_SIZE, 0), 0);
+    expect_nothing("nothing waits on node 0", gateway_take(area, GATEWAY_AREA_SIZE, 0), 0);
     frames();
     made_up();
 
@@ -217,6 +374,7 @@ int main(int count, char **arguments)
     gateway_tick(area, GATEWAY_AREA_SIZE, report, sizeof report);
     expect("a long timeout, two in a row", report[0], GATEWAY_LONG_TIMEOUT);
     ages();
+    lin();
 
     printf(wrong == 0 ? "ok\n" : "wrong\n");
     return wrong != 0;

@@ -29,7 +29,7 @@ static void call(uint8_t *own)
     for (unsigned i = 0; i < sizeof payload; i++)
         payload[i] = (uint8_t)next();
     unsigned number;
-    switch (next() % 4) {
+    switch (next() % 6) {
     case 0:
         number = gateway_receive(own, GATEWAY_AREA_SIZE, next() % 17, (uint32_t)(next() % 3 ? next() % 65536 : next()), payload, next() % 10).number;
         break;
@@ -43,6 +43,12 @@ static void call(uint8_t *own)
         outside += part.at + part.size > GATEWAY_AREA_SIZE;
         break;
     }
+    case 3:
+        number = gateway_respond(own, GATEWAY_AREA_SIZE, next() % 17, (uint32_t)(next() % 3 ? next() % 64 : next()), payload, next() % 10, (uint8_t)next());
+        break;
+    case 4:
+        number = gateway_no_response(own, GATEWAY_AREA_SIZE, next() % 17, (uint32_t)(next() % 3 ? next() % 64 : next()));
+        break;
     default:
         number = gateway_fullness(own, GATEWAY_AREA_SIZE, next() % 300).number;
     }
@@ -58,7 +64,7 @@ int main(void)
             area[i] = before[i] = (uint8_t)next();
         own[0] = before[BEHIND] = 0x47;
         own[1] = before[BEHIND + 1] = 0x57;
-        for (unsigned i = 0; i < 60; i++)
+        for (unsigned i = 0; i < 90; i++)
             call(own);
         for (size_t i = 0; i < sizeof area; i++)
             if ((i < BEHIND + 2 || i >= BEHIND + GATEWAY_AREA_SIZE) && area[i] != before[i]) {
@@ -71,12 +77,13 @@ int main(void)
         return 1;
     }
     /* each answer that such an area can give */
-    const unsigned met[] = {0, GATEWAY_NO_ROW, GATEWAY_REFUSED_NO_NODE, GATEWAY_REFUSED_LONG_PAYLOAD, GATEWAY_REFUSED_SHORT_REPORT, GATEWAY_REFUSED_NO_FRAME};
+    const unsigned met[] = {0, GATEWAY_NO_ROW, GATEWAY_REFUSED_NO_NODE, GATEWAY_REFUSED_LONG_PAYLOAD, GATEWAY_REFUSED_SHORT_REPORT,
+                            GATEWAY_REFUSED_NO_FRAME, GATEWAY_REFUSED_WRONG_CALL};
     for (unsigned i = 0; i < sizeof met / sizeof *met; i++)
         if (!answers[met[i]]) {
             printf("answer %u was never met\n", met[i]);
             return 1;
         }
-    printf("60 areas of random bytes from seed %d, 60 calls on each: ok\n", SEED);
+    printf("60 areas of random bytes from seed %d, 90 calls on each: ok\n", SEED);
     return 0;
 }

@@ -13,7 +13,13 @@ RECORDS = {
     5: Kind('a signal', {'position': 1, 'signal size': 1}),
     6: Kind('a destination', {'Tx frame': 2, 'position': 1}),
 }
-EVENTS = {16: Kind('a reception', {'node': 1, 'ID': 2, 'length': 1, 'data': 8}), 17: Kind('a tick', {}), 18: Kind('a take', {'node': 1})}
+EVENTS = {
+    16: Kind('a reception', {'node': 1, 'ID': 2, 'length': 1, 'data': 8}),
+    17: Kind('a tick', {}),
+    18: Kind('a take', {'node': 1}),
+    20: Kind('a response', {'node': 1, 'ID': 2, 'length': 1, 'data': 8, 'checksum': 1}),
+    21: Kind('no response', {'node': 1, 'ID': 2}),
+}
 
 # A record or an event: where it begins, its kind, the bytes of the kind and of each field, and the fields as numbers.
 # One that is cut or of an unknown kind takes the rest, a part for each byte, and has no fields.
@@ -50,11 +56,23 @@ class Plan:
     """What the records say that were added so far."""
 
     def __init__(self):
-        self.order, self.nodes, self.tx, self.rx, self.owners = 'big', 0, [], [], []
+        self.order, self.types, self.tx, self.rx, self.owners = 'big', [], [], [], []
         self.kind = None          # of the last record
         self.size = 0             # of the last signal
         self.signals = self.destinations = 0
         self.frame_signals = self.signal_destinations = 0  # of the last Rx frame, of the last signal
+
+    @property
+    def nodes(self):
+        return len(self.types)
+
+    def lin(self, node):
+        """Whether there is such a node and it is a LIN node."""
+        return node < self.nodes and self.types[node] == 1
+
+    def rows(self, event):
+        """The number of the Rx frame of an event's node and ID, in a list; an empty one where there is none."""
+        return [number for number, frame in enumerate(self.rx) if (frame.node, frame.id) == (event.fields['node'], event.fields['ID'])]
 
     def add(self, number, record):
         """Adds a whole record, which has this number."""
@@ -63,7 +81,7 @@ class Plan:
         if record.kind == 1:
             self.order = 'little' if values[0] else 'big'
         elif record.kind == 2:
-            self.nodes += 1
+            self.types.append(values[0])
         elif record.kind == 3:
             self.tx.append(Tx(*values))
         elif record.kind == 4:

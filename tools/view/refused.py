@@ -9,7 +9,7 @@ FOLLOWERS = {None: (1,), 1: (2, 3, 4), 2: (2, 3, 4), 3: (3, 4), 4: (4, 5), 5: (4
 # What a field can be, and the same in words. Two fields depend on others: `node` and `initial payload`.
 RANGES = {
     'order': (range(2), '00 (big) or 01 (little)'),
-    'type': (range(1), '00 (CAN)'),
+    'type': (range(2), '00 (CAN) or 01 (LIN)'),
     'ID': (range(2048), '0000 to 07ff'),
     'size': (range(9), '00 to 08'),
     'prescaler': ((1, 2, 10, 20), '01, 02, 0a or 14 (1, 2, 10 or 20)'),
@@ -20,6 +20,8 @@ RANGES = {
     'position': (range(64), '00 to 3f (0 to 63)'),
     'signal size': (range(1, 65), '01 to 40 (1 to 64)'),
 }
+# Those that are others on a LIN node.
+LIN_RANGES = {'ID': (range(60), '0000 to 003b (0 to 59) on a LIN node'), 'size': (range(1, 9), '01 to 08 on a LIN node')}
 # The refused record: what the records before it say, its number, itself, and the records behind it.
 Refused = namedtuple('Refused', 'plan at record rest')
 
@@ -50,6 +52,8 @@ def unknown(refused):
 
 def misplaced(refused):
     before, kind = refused.plan.kind, refused.record.kind
+    if kind == before == 2 and 1 in refused.plan.types:
+        return f'here stands a CAN node, and node {refused.plan.types.index(1)} is a LIN node; LIN nodes stand behind all CAN nodes'
     may = one_of([RECORDS[follower].name for follower in FOLLOWERS[before]])
     rule = f'after {RECORDS[before].name} comes {may}' if before else f'a plan begins with {may}'
     return f'here stands {RECORDS[kind].name}; {rule}'
@@ -70,11 +74,12 @@ def too_many(refused):
 
 def out_of_range(refused):
     plan, record = refused.plan, refused.record
+    ranges = {**RANGES, **LIN_RANGES} if plan.lin(record.fields.get('node', plan.nodes)) else RANGES
     outside = []
     for (name, value), part in zip(record.fields.items(), record.parts[1:]):
         what = f'{name} is hex {part.hex()}' + f' ({value})' * (value > 9)
-        if name in RANGES and value not in RANGES[name][0]:
-            outside.append(f'{what}, and its range is hex {RANGES[name][1]}')
+        if name in ranges and value not in ranges[name][0]:
+            outside.append(f'{what}, and its range is hex {ranges[name][1]}')
         if name == 'node' and value >= plan.nodes:
             outside.append(f'{what}, and {numbered(plan.nodes, "node")}')
         if name == 'initial payload' and any(part[record.fields['size']:]):

@@ -3,16 +3,27 @@ import os
 import re
 from itertools import groupby
 
+from view.lin import checksum, protected
 from view.records import EVENTS, RECORDS
 
+TYPES = {0: 'CAN', 1: 'LIN, we are the master'}
 SENDS = {0: '', 1: ', sends on reception', 2: ', sends on change', 3: ', sends on reception and on change'}
+# What each kind of event can be answered with, but for the lines below.
 ANSWERS = {
-    'rx 0': 'accepted',
-    'rx 2': "not taken: shorter than the row's size",
-    'take none': 'nothing waits on this node',
+    16: {'rx 0': 'accepted', 'rx 2': "not taken: shorter than the row's size"},
+    17: {},
+    18: {'take none': 'nothing waits on this node'},
+    20: {'rx 0': 'accepted', 'rx 2': "not taken: shorter than the row's size", 'rx 3': 'not taken: the checksum is wrong'},
+    21: {},
 }
 TICK = re.compile(r'tick( [0-2])*')
-LINE = re.compile(rf'\w+ refused 1[1-5]|rx 1 \d{{1,3}}|{TICK.pattern}|take \d{{1,3}} \d{{1,4}} [0-8] (-|([0-9a-f]{{2}})+) \d{{1,3}}')
+LINES = {
+    16: re.compile(r'rx refused 1[1-6]|rx 1 \d{1,3}'),
+    17: re.compile(rf'tick refused 1[1-6]|{TICK.pattern}'),
+    18: re.compile(r'take refused 1[1-6]|take \d{1,3} \d{1,4} [0-8] (-|([0-9a-f]{2})+) \d{1,3}|take request \d{1,3} \d{1,2} [1-8] \d{1,3}'),
+    20: re.compile(r'rx refused 1[1-6]'),
+    21: re.compile(r'silent refused 1[1-6]|silent [12]'),
+}
 NO_LINE = 'no line of the bench program'
 MOST_ID = 2047
 
@@ -49,9 +60,9 @@ def numbered(total, what):
 def cut_short(kind, kinds, there):
     """That only the first bytes of a record or event are there."""
     name, fields = kinds[kind]
-    layout = ', '.join(['kind', *(field + f' ({size})' * (size > 1) for field, size in fields.items())])
-    always = ' whatever the length' * ('data' in fields)
-    return f'{name} has {count(1 + sum(fields.values()), "byte")}: {layout}{always}; here {"is" if there == 1 else "are"} {there}'
+    always = {'data': ' whatever the length'}
+    layout = ', '.join(['kind', *(field + f' ({size})' * (size > 1) + always.get(field, '') for field, size in fields.items())])
+    return f'{name} has {count(1 + sum(fields.values()), "byte")}: {layout}; here {"is" if there == 1 else "are"} {there}'
 
 
 def unknown_kind(kind, kinds):
@@ -74,6 +85,11 @@ def reason(number):
         return re.search(rf'^\| {number} \| (.*?) \|', text.read(), re.M).group(1)
 
 
+def on_lin(plan, frame):
+    """', protected 0xc1' for a frame of a LIN node, and nothing for any other."""
+    return f', protected 0x{protected(frame.id):02x}' if plan.lin(frame.node) else ''
+
+
 def record_words(plan, record):
     """The record that was added to the plan last."""
     if record.fields is None:
@@ -82,18 +98,19 @@ def record_words(plan, record):
     if record.kind == 1:
         return f'head: {plan.order} order' if values[0] < 2 else f'head: order {values[0]}'
     if record.kind == 2:
-        return f'node {plan.nodes - 1}: ' + ('CAN' if values[0] == 0 else f'type {values[0]}')
+        return f'node {plan.nodes - 1}: ' + TYPES.get(values[0], f'type {values[0]}')
     if record.kind == 3:
         frame = plan.tx[-1]
         period = expiries(frame) if frame.reload or frame.initial else 'no period'
         sends = SENDS.get(frame.flags, f', flags {frame.flags}')
-        return f'Tx frame {len(plan.tx) - 1}: {key(frame)}, {count(frame.size, "byte")}, {period}{sends}'
+        return f'Tx frame {len(plan.tx) - 1}: {key(frame)}{on_lin(plan, frame)}, {count(frame.size, "byte")}, {period}{sends}'
     if record.kind == 4:
         frame = plan.rx[-1]
-        timeout = f'timeout {expiries(frame)}' if frame.reload or frame.initial else 'no timeout'
+        expires, stopped = ('asked for', 'never asked for') if plan.lin(frame.node) else ('timeout', 'no timeout')
+        timeout = f'{expires} {expiries(frame)}' if frame.reload or frame.initial else stopped
         long_count = f', long count {frame.long_count}' if frame.long_count else ''
         failure = f', failure bit {frame.position}' if frame.enable else ''
-        return f'Rx frame {len(plan.rx) - 1}: {key(frame)}, {count(frame.size, "byte")}, {timeout}{long_count}{failure}'
+        return f'Rx frame {len(plan.rx) - 1}: {key(frame)}{on_lin(plan, frame)}, {count(frame.size, "byte")}, {timeout}{long_count}{failure}'
     if record.kind == 5:
         return f'    signal: {bits(*values)}'
     return f'        to {bits(values[1], plan.size)} of Tx frame {values[0]}'
@@ -106,7 +123,9 @@ def event_words(event, tick, times):
         return f'node {event.fields["node"]} receives ID 0x{event.fields["ID"]:03x}'
     if event.kind == 17:
         return f'tick {tick}' if times == 1 else f'ticks {tick} to {tick + times - 1}'
-    return f'take on node {event.fields["node"]}'
+    if event.kind == 18:
+        return f'take on node {event.fields["node"]}'
+    return f'node {event.fields["node"]} {"responds" if event.kind == 20 else "silent"}, ID 0x{event.fields["ID"]:03x}'
 
 
 def bad_event(event):
@@ -117,45 +136,89 @@ def bad_event(event):
 
 def accepted(plan, event, line):
     """The number of the Rx frame that the line says was accepted, in a list; an empty one for any other line."""
-    if line != 'rx 0' or event.kind != 16 or not event.fields:
-        return []
-    return [number for number, frame in enumerate(plan.rx) if (frame.node, frame.id) == (event.fields['node'], event.fields['ID'])]
+    return plan.rows(event) if line == 'rx 0' and event.kind in (16, 20) and event.fields else []
+
+
+def timed_out(plan, event, line):
+    """The numbers of the Rx frames of which the line says a timeout, with its byte."""
+    if event.kind == 17 and TICK.fullmatch(line):
+        return [(number, byte) for number, byte in enumerate(line.split()[1:]) if byte != '0']
+    if event.kind == 21 and event.fields and line in ('silent 1', 'silent 2'):
+        return [(number, line.split()[1]) for number in plan.rows(event)]
+    return []
 
 
 def count_timeouts(plan, event, line, in_a_row):
     """Counts how many timeouts of each Rx frame came in a row: its acceptance begins anew."""
     for number in accepted(plan, event, line):
         in_a_row[number] = 0
-    if TICK.fullmatch(line):
-        for number, byte in enumerate(line.split()[1:]):
-            in_a_row[number] = in_a_row.get(number, 0) + (byte != '0')
+    for number, _ in timed_out(plan, event, line):
+        in_a_row[number] = in_a_row.get(number, 0) + 1
 
 
 def answer_words(plan, event, line, in_a_row, ages):
     """A line of the program that answers an event, as a list of lines."""
-    if line in ANSWERS:
-        return [ANSWERS[line]]
-    if not LINE.fullmatch(line):
+    if not event.fields and event.kind != 17:
         return [NO_LINE]
-    word, *rest = line.split()
+    if line in ANSWERS[event.kind]:
+        return [ANSWERS[event.kind][line], *checksum_words(event, line)]
+    if not LINES[event.kind].fullmatch(line):
+        return [NO_LINE]
+    _, *rest = line.split()
     if rest[:1] == ['refused']:
-        return [reason(rest[1]) + (f': {numbered(plan.nodes, "node")}' if rest[1] == '12' else '')]
-    if word == 'rx':
+        return [reason(rest[1]) + why_refused(plan, event, rest[1])]
+    if event.kind == 16:
         return no_row(plan, event, int(rest[1]))
-    if word == 'tick':
-        return list(timeouts(plan, rest, in_a_row)) or ['no timeout']
-    tx, id_, _, payload, waiting = rest
+    if event.kind == 18:
+        return request_words(plan, event, *map(int, rest[1:])) if rest[0] == 'request' else frame_words(plan, event, ages, *rest)
+    return list(timeouts(plan, timed_out(plan, event, line), in_a_row)) or ['no timeout' if event.kind == 17 else NO_LINE]
+
+
+def why_refused(plan, event, number):
+    """What a refusal is about, where the plan tells."""
+    if number == '12':
+        return f': {numbered(plan.nodes, "node")}'
+    if number != '16' or event.kind not in (16, 20, 21):
+        return ''
+    node, id_ = event.fields['node'], event.fields['ID']
+    if event.kind == 16:
+        return f': node {node} is a LIN node'
+    return f': node {node} has no Rx frame with ID 0x{id_:03x}' if plan.lin(node) else f': node {node} is a CAN node'
+
+
+def checksum_words(event, line):
+    """Of a response, the protected identifier and the checksum that its data should have."""
+    if event.kind != 20 or line == 'rx 2':
+        return []
+    id_, data = event.fields['ID'], event.parts[4][:event.fields['length']]
+    which = 'checksum' if line == 'rx 0' else 'the right one is'
+    return [f'    {which} 0x{checksum(id_, data):02x}, protected 0x{protected(id_):02x}']
+
+
+def after_it(waiting):
+    return {0: 'none waits', 1: '1 waits'}.get(waiting, f'{waiting} wait') + ' after it'
+
+
+def request_words(plan, event, rx, id_, size, waiting):
+    """A request: what the driver sends, and what it listens for."""
+    if rx >= len(plan.rx) or (plan.rx[rx].node, plan.rx[rx].id, plan.rx[rx].size) != (event.fields['node'], id_, size):
+        return [NO_LINE]
+    return [f'request for Rx frame {rx} (ID 0x{id_:03x}), {after_it(waiting)}',
+            f'  protected 0x{protected(id_):02x}; {count(size, "byte")} and a checksum should come']
+
+
+def frame_words(plan, event, ages, tx, id_, _, payload, waiting):
+    """A taken frame with what its payload holds; on a LIN node with its protected identifier and checksum."""
     payload, owners = bytes.fromhex(payload.strip('-')), [owner for owner in plan.owners if owner.tx == int(tx)]
     if any(owner.position + owner.size > 8 * len(payload) for owner in owners):
         return [NO_LINE]
-    after = {'0': 'none waits', '1': '1 waits'}.get(waiting, f'{waiting} wait')
-    return [f'Tx frame {tx} (ID 0x{int(id_):03x}), {after} after it', *values_in(plan.order, owners, payload, ages)]
+    id_ = int(id_)
+    lin = [f'  protected 0x{protected(id_):02x}; checksum 0x{checksum(id_, payload):02x}'] if plan.lin(event.fields['node']) else []
+    return [f'Tx frame {tx} (ID 0x{id_:03x}), {after_it(int(waiting))}', *lin, *values_in(plan, owners, payload, ages)]
 
 
 def no_row(plan, event, place):
     """Where in the plan a row would stand for a frame that has none: between which Rx frames."""
-    if event.kind != 16 or not event.fields:
-        return [NO_LINE]
     node = event.fields['node']
     own = [number for number, frame in enumerate(plan.rx) if frame.node == node]
     if place > len(own):
@@ -179,18 +242,18 @@ def no_row(plan, event, place):
     return ['not taken: this node has no row for the ID', f'    {where}']
 
 
-def timeouts(plan, report, in_a_row):
-    """What a report says."""
-    for number, (frame, byte) in enumerate(zip(plan.rx, report)):
-        if byte != '0':
-            yield f'{"long" if byte == "2" else "short"} timeout: Rx frame {number} ({key(frame)})'
+def timeouts(plan, told, in_a_row):
+    """The timeouts that a line tells."""
+    for number, byte in told:
+        if number < len(plan.rx):
+            yield f'{"long" if byte == "2" else "short"} timeout: Rx frame {number} ({key(plan.rx[number])})'
             if in_a_row[number] > 1:
                 yield f'    {in_a_row[number]} in a row'
 
 
-def values_in(order, owners, payload, ages):
-    """What a payload holds in the bits of its owners, by the Rx frames that it came from, and how old that is."""
-    whole = int.from_bytes(payload, order)
+def values_in(plan, owners, payload, ages):
+    """What a payload holds in the bits of its owners, by the Rx frames that it came from, and of a CAN source how old that is."""
+    order, whole = plan.order, int.from_bytes(payload, plan.order)
     for rx, own in groupby(owners, lambda owner: owner.rx):
         values, failure = [], None
         for owner in sorted(own, key=lambda owner: owner.failure):  # the failure bit last
@@ -199,4 +262,5 @@ def values_in(order, owners, payload, ages):
             values.append(('failure bit ' if owner.failure else '0x') + f'{value:0{(owner.size + 3) // 4}x}')
             failure = value if owner.failure else None
         yield f'from Rx frame {rx}: ' + ', '.join(values)
-        yield f'  {ages.words(rx, failure)}'
+        if not plan.lin(plan.rx[rx].node):
+            yield f'  {ages.words(rx, failure)}'

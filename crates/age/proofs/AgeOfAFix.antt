@@ -22,7 +22,7 @@ use Rattle.history.specs.Past.{pastOf}
 use Rattle.history.specs.Fresh.{Owner, nobody, signal, indicator, owner, lastFailed, sourceBit, failureBit, freshBy, fresh}
 use Rattle.history.proofs.Demand3.{every-bit-fresh}
 use Rattle.age.specs.Acceptance.{Acceptance, lastAcceptance}
-use Rattle.age.specs.AgeOfAFix.{Handed, Heard, handedFailure, bound, Recent, AgeOfAFix, SourcesTogether}
+use Rattle.age.specs.AgeOfAFix.{Handed, Heard, handedFailure, bound, Recent, AgeOfAFix, SourcesTogether, BitsOf, BitsOfAnySource}
 use Rattle.age.specs.Choosing.{NotEarly, ZeroSaysAccepted}
 use Rattle.age.proofs.Logs.{zero-accepted}
 use Rattle.age.proofs.Knows.{Timed, its-prescaler}
@@ -41,8 +41,8 @@ module _ {a : List ℕ} {calls : List Step} {plan : List ℕ} {t : ℕ} {payload
 
   kept : payload ≡ firstOf (plannedTx plan t .size) (keptOf (k .state) t)
   kept =
-      handed-kept (k .held .good) (k .state) (k .held .shape) (h .node) t (h .id) (h .size) (h .waiting) payload
-      (sym (follows (k .held) (take (h .node)) .0) ∙ h .takes)
+      handed-kept (k .held .good) (k .state) (k .held .shape) (h .node) (h .frame) payload (sym (follows (k .held) (take (h .node)) .0) ∙ h .takes)
+      ∙ ap (λ (u : ℕ). firstOf (plannedTx plan u .size) (keptOf (k .state) u)) (h .tx)
 
   afresh : (b : ℕ) (w : Owner) → owner plan t b ≡ w → (w ≡ nobody → ⊥)
       → bitAt (orderIn (records plan)) payload b ≡ freshBy (orderIn (records plan)) w log (initial plan t b)
@@ -50,6 +50,13 @@ module _ {a : List ℕ} {calls : List Step} {plan : List ℕ} {t : ℕ} {payload
   afresh b w e d =
       let (exists, small, same) = handed-bit (k .held) t b (λ f. d (sym e ∙ f)) payload kept in
       rw (← e) (same ∙ every-bit-fresh a calls plan (h .opened) t b exists small)
+
+  -- those of its last acceptance
+  bits : (last : Acceptance) → lastAcceptance (rowAt plan r .frame) calls a ≡ some last → BitsOf plan t payload r last
+  unfolding freshBy sourceBit
+  bits last accepted b from e =
+      afresh b (signal r from) e (λ f. differ cc)
+      ∙ ap (λ y. sourceBit (orderIn (records plan)) y from (initial plan t b)) (rw accepted at (k .knows .payload))
 
   module _ (indicates : owner plan t (rowAt plan r .frame .position) ≡ indicator r) where
     abbrev first : ℕ
@@ -69,22 +76,18 @@ module _ {a : List ℕ} {calls : List Step} {plan : List ℕ} {t : ℕ} {payload
 module _ {a : List ℕ} {calls : List Step} {plan : List ℕ} {t : ℕ} {payload : List ℕ} (h : Handed a calls plan t payload)
     (r : ℕ) (last : Acceptance) (x : Heard a calls plan t r last) where
   timed : 0 < rowAt plan r .frame .reload → Timed plan r (k h r (x .row) .state) (pastOf calls a .log) last
-  timed above = k h r (x .row) .knows .timed above last (x .accepted)
+  timed above = k h r (x .row) .knows .timed (λ lin. let both = sym (x .can) ∙ lin in differ cc) above last (x .accepted)
 
   -- ---- the failure bit is 0: there was no expiry
 
   recent : 0 < rowAt plan r .frame .reload → handedFailure plan payload r ≡ 0 → Recent plan t payload r last
-  unfolding freshBy sourceBit
   recent above unset =
       record {
         few =
             ⊎-elim (λ (f, (ticks, due, few, more)). omega (arith, few, due .all))
             (λ (f, more). absurd (omega (arith, unset, failure-is h r (x .row) (x .indicates) 1 f)))
             (timed above);
-        bits =
-            λ b from e.
-            afresh h r (x .row) b (signal r from) e (λ f. differ cc)
-            ∙ ap (λ y. sourceBit (orderIn (records plan)) y from (initial plan t b)) (rw (x .accepted) at (k h r (x .row) .knows .payload));
+        bits = bits h r (x .row) last (x .accepted);
       }
 
   -- ---- and it is 0 where there cannot have been one
@@ -124,6 +127,9 @@ module _ {a : List ℕ} {calls : List Step} {plan : List ℕ} {t : ℕ} {payload
 
 pub age-of-a-fix : AgeOfAFix
 age-of-a-fix a calls plan t payload h r last x above unset = recent h r last x above unset
+
+pub bits-of-any-source : BitsOfAnySource
+bits-of-any-source a calls plan t payload h r last row accepted = bits h r row last accepted
 
 pub sources-together : SourcesTogether
 sources-together a calls plan t payload h q r one-last other-last x y above below unset clear =

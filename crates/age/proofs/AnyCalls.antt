@@ -21,7 +21,7 @@ use Rattle.tables.specs.Reads.{rowAt}
 use Rattle.model.specs.Plan.{said}
 use Rattle.model.specs.State.{State}
 use Rattle.model.specs.Opening.{begun}
-use Rattle.model.specs.Calls.{Call, reception, tick, take, fullness, holding, answerFrom, nextFrom, running, Step, opening, call}
+use Rattle.model.specs.Calls.{Call, reception, response, noResponse, tick, take, fullness, holding, answerFrom, nextFrom, running, Step, opening, call}
 use Rattle.history.specs.Calls.{answerIn, areaAfter, stepped, afterIn}
 use Rattle.history.specs.Past.{Past, unopened, openedPast, told, pastAfter, pastAfterAll, pastOf}
 use Rattle.refines.proofs.Held.{Held}
@@ -30,6 +30,7 @@ use Rattle.refines.proofs.Worlds.{Agrees, call-agrees}
 use Rattle.age.specs.Acceptance.{Acceptance, byOpening, acceptanceAfter, acceptanceAfterAll, lastAcceptance}
 use Rattle.age.proofs.Knows.{Knows, knows-nothing, knows-taken, knows-full}
 use Rattle.age.proofs.KnowsReceptions.{knows-received}
+use Rattle.age.proofs.KnowsResponses.{knows-responded, knows-silent}
 use Rattle.age.proofs.KnowsTicks.{knows-ticked}
 
 pub record Known (plan : List ℕ) (r : ℕ) (a : List ℕ) (log : List RxEvent) (last : Option Acceptance) : Type 0 where
@@ -98,6 +99,22 @@ module _ (x : RxFrame) (r : ℕ) where
         (λ plan e is l s h k.
         rw (e, ← is) (knows-received (h .good) r l s (h .shape) k n id payload _ (sym (follows h (reception n id payload) .0))))
 
+    responded : (y : Option (List ℕ)) (n id : ℕ) (payload : List ℕ) (sum : ℕ) → KnownIf y a log last
+        → KnownIf y (areaAfter a (response n id payload sum)) (log ++ told y (call (response n id payload sum)) a)
+        (acceptanceAfter x last (call (response n id payload sum)) a)
+    unfolding told acceptanceAfter answerIn
+    responded y n id payload sum =
+        goes-on (response n id payload sum) y
+        (λ plan e is l s h k.
+        rw (e, ← is) (knows-responded (h .good) r l s (h .shape) k n id payload sum _ (sym (follows h (response n id payload sum) .0))))
+
+    silent : (y : Option (List ℕ)) (n id : ℕ) → KnownIf y a log last
+        → KnownIf y (areaAfter a (noResponse n id)) (log ++ told y (call (noResponse n id)) a) last
+    unfolding told answerIn
+    silent y n id =
+        goes-on (noResponse n id) y
+        (λ plan e is l s h k. rw e (knows-silent (h .good) r l s (h .shape) k n id _ (sym (follows h (noResponse n id) .0))))
+
     ticked : (y : Option (List ℕ)) (report : List ℕ) → KnownIf y a log last
         → KnownIf y (areaAfter a (tick report)) (log ++ told y (call (tick report)) a) (acceptanceAfter x last (call (tick report)) a)
     unfolding told acceptanceAfter answerIn
@@ -118,6 +135,8 @@ module _ (x : RxFrame) (r : ℕ) where
   unfolding pastAfter stepped acceptanceAfter
   after-call past (opening plan) a last h = after-opening past plan a last h (checkPlan plan) refl
   after-call past (call (reception n id payload)) a last h = received a (past .log) last (past .plan) n id payload h
+  after-call past (call (response n id payload sum)) a last h = responded a (past .log) last (past .plan) n id payload sum h
+  after-call past (call (noResponse n id)) a last h = silent a (past .log) last (past .plan) n id h
   after-call past (call (tick report)) a last h = ticked a (past .log) last (past .plan) report h
   after-call past (call (take n)) a last h = taken a (past .log) last (past .plan) n h
   after-call past (call (fullness t)) a last h = full a (past .log) last (past .plan) t h

@@ -14,7 +14,7 @@ use Rattle.history.specs.Fresh.{holds, ownerFrom, ownerIn, owner}
 use Rattle.age.specs.BestBound.{Aged, Still, BestBound, NoSmallerBound, Unflagged, NoBound}
 use Rattle.age.proofs.Due.{prescaler-range}
 use Rattle.age.proofs.Quiet.{Quiet, off-quiet, stopped-quiet, loaded-quiet}
-use Rattle.age.proofs.OneSource.{Enable, off, on, oneSource, one-source-order, one-source-rows, given}
+use Rattle.age.proofs.OneSource.{Enable, off, on, oneSource, one-source-order, one-source-types, one-source-rows, given}
 use Rattle.age.proofs.Silence.{callsOf, lastOf, handed, accepted}
 
 module _ {e r p : ℕ} (enable : Enable e) (byte : r < 256) (prescaler : Prescaler p) (a : List ℕ) (long : 32768 ≤ length a) (k : ℕ)
@@ -44,7 +44,13 @@ module _ {r p : ℕ} (byte : r < 256) (prescaler : Prescaler p) (a : List ℕ) (
       let x = aged on byte prescaler a long k quiet in
       record {
         aged = x;
-        heard = record { row = x .row; indicates = rw (one-source-rows 1 r p); accepted = x .accepted };
+        heard =
+            record {
+              row = x .row;
+              can = rw (one-source-rows 1 r p, one-source-types 1 r p);
+              indicates = rw (one-source-rows 1 r p);
+              accepted = x .accepted;
+            };
         zero = rw (one-source-order 1 r p, one-source-rows 1 r p);
       }
 

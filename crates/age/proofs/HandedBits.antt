@@ -10,13 +10,15 @@ use Rattle.base.proofs.Apart.{differ}
 use Rattle.base.proofs.Picks.{cases}
 use Rattle.bits.specs.Payload.{bitAt}
 use Rattle.records.specs.declared.record.TxFrame.{TxFrame}
-use Rattle.records.specs.declared.record.TxNumber.{TxNumber}
+use Rattle.records.specs.declared.record.Entry.{Entry}
+use Rattle.records.specs.declared.record.Entry.the-variants as entry
 use Rattle.records.specs.Views.{noTx}
 use Rattle.records.specs.Records.{records}
 use Rattle.plan.specs.Rows.{Claim, claimsOf, txOf, orderIn}
 use Rattle.facts.specs.Good.{Each, sizesOf, Fits, GoodPlan}
 use Rattle.facts.proofs.Sizes.{sizes-length}
 use Rattle.facts.proofs.ByNumber.{frame-ranges}
+use Rattle.answers.specs.declared.TakenFrame.{TakenFrame}
 use Rattle.answers.specs.declared.Taken.the-variants.{Frame}
 use Rattle.tables.specs.Reads.{plannedTx}
 use Rattle.model.specs.Plan.{said}
@@ -58,25 +60,28 @@ owned {plan} good t b d =
 
 -- ---- what a take hands back is the kept payload of its frame
 
+taken-one : {x y : TakenFrame} {xs ys : List ℕ} → taken (Frame x) xs ≡ taken (Frame y) ys → (x .tx .0 ≡ y .tx .0) × (xs ≡ ys)
+taken-one {x} {y} e = let same : x ≡ y = cc in (ap (λ z. z .tx .0) same, cc)
+
 module _ {plan : List ℕ} (good : GoodPlan plan) (s : State) (shape : Shape (said plan) s) (n : ℕ) where
-  pub handed-kept : (t id size waiting : ℕ) (payload : List ℕ)
-      → running (said plan) .answer s (take n) ≡ taken (Frame (record { 0 = t }) id size waiting) payload
-      → payload ≡ firstOf (plannedTx plan t .size) (keptOf s t)
-  handed-kept t id size waiting payload e = go (decLt n (said plan .nodes)) (queueOn s n) refl
+  pub handed-kept : (x : TakenFrame) (payload : List ℕ) → running (said plan) .answer s (take n) ≡ taken (Frame x) payload
+      → payload ≡ firstOf (plannedTx plan (x .tx .0) .size) (keptOf s (x .tx .0))
+  handed-kept x payload e = go (decLt n (said plan .nodes)) (queueOn s n) refl
     where
-      go : Dec (n < said plan .nodes) → (q : List ℕ) → queueOn s n ≡ q → payload ≡ firstOf (plannedTx plan t .size) (keptOf s t)
+      go : Dec (n < said plan .nodes) → (q : List Entry) → queueOn s n ≡ q → payload ≡ firstOf (plannedTx plan (x .tx .0) .size) (keptOf s (x .tx .0))
       go (no d) q f =
           let other = runs plan good .take s shape n .refused (omega arith) .answer in
           absurd (differ cc)
       go (yes l) [] f =
           let other = runs plan good .take s shape n .none l f .answer in
           absurd (differ cc)
-      go (yes l) (u ∷ rest) f =
-          let its = runs plan good .take s shape n .oldest l u rest f .answer in
-          let number : _≡_ {A = TxNumber} (record { 0 = t }) (record { 0 = u }) = cc in
-          let same : t ≡ u = ap (λ x. x .0) number in
-          let bytes : payload ≡ firstOf (plannedTx plan u .size) (keptOf s u) = cc in
-          rw same bytes
+      go (yes l) (entry.Request r ∷ rest) f =
+          let other = runs plan good .take s shape n .oldestRequest l (r .0) rest f .answer in
+          absurd (differ cc)
+      go (yes l) (entry.Frame u ∷ rest) f =
+          let its = runs plan good .take s shape n .oldestFrame l (u .0) rest f in
+          let (same, bytes) = taken-one (sym e ∙ its .takes .answer) in
+          rw same (bytes ∙ its .whole)
 
 pub handed-bit :
     {plan a : List ℕ} {s : State} → Held plan a s → (t b : ℕ) → (owner plan t b ≡ nobody → ⊥) → (payload : List ℕ)

@@ -1,5 +1,5 @@
--- What a caller knows of a source, tied to the state: the payload accepted last; and, if its timer has not expired since, that it will within the
--- bound.
+-- What a caller knows of a source, tied to the state: the payload accepted last; and of a source that is not LIN, if its timer has not expired since,
+-- that it will within the bound.
 use mathlib.Core.Path.{_≡_, refl, ap}
 use mathlib.Core.Logic.{_⊎_, ⊎-elim}
 use mathlib.Core.List.{List, []}
@@ -14,8 +14,7 @@ use Rattle.tables.specs.Reads.{rowAt}
 use Rattle.model.specs.Plan.{said}
 use Rattle.model.specs.State.{State}
 use Rattle.model.specs.Calls.{take, fullness, Running, running}
-use Rattle.model.specs.Words.{Shape}
-use Rattle.model.specs.Rules.{Runs}
+use Rattle.model.specs.Words.{LinRow, Shape}
 use Rattle.model.proofs.Meets.{runs}
 use Rattle.model.proofs.Outcomes.{take-outcome, fullness-outcome}
 use Rattle.history.specs.Fresh.{lastAccepted, lastFailed}
@@ -45,12 +44,13 @@ Timed plan r s log x =
 
 pub record Knows (plan : List ℕ) (r : ℕ) (s : State) (log : List RxEvent) (last : Option Acceptance) : Type 0 where
   pub payload : lastAccepted r log ≡ payloadOf last
-  pub timed : 0 < rowAt plan r .frame .reload → (x : Acceptance) → last ≡ some x → Timed plan r s log x
+  -- on LIN no acceptance loads the timer, and its expiry is a request
+  pub timed : (LinRow (said plan) r → ⊥) → 0 < rowAt plan r .frame .reload → (x : Acceptance) → last ≡ some x → Timed plan r s log x
 
 -- where nothing was accepted
 pub knows-nothing : (plan : List ℕ) (r : ℕ) (s : State) → Knows plan r s [] none
 unfolding lastAccepted
-knows-nothing plan r s = record { payload = refl; timed = λ h x e. absurd (differ cc) }
+knows-nothing plan r s = record { payload = refl; timed = λ c h x e. absurd (differ cc) }
 
 pub its-prescaler : {plan : List ℕ} → GoodPlan plan → (r : ℕ) → r < length (rowsOf plan) → 0 < rowAt plan r .frame .prescaler
 its-prescaler {plan} good r l = prescaler-range (rx-prescaler plan good r l) .0
@@ -59,7 +59,7 @@ its-prescaler {plan} good r l = prescaler-range (rx-prescaler plan good r l) .0
 pub knows-still :
     {plan : List ℕ} {r : ℕ} {s z : State} {log : List RxEvent} {last : Option Acceptance} → z .number ≡ s .number
     → getD (z .rxTimers) r 0 ≡ getD (s .rxTimers) r 0 → Knows plan r s log last → Knows plan r z log last
-knows-still e f k = record { payload = k .payload; timed = λ h x is. rw (e, f) (k .timed h x is) }
+knows-still e f k = record { payload = k .payload; timed = λ c h x is. rw (e, f) (k .timed c h x is) }
 
 -- ---- a take, and a fullness
 
@@ -68,12 +68,10 @@ module _ {plan : List ℕ} (good : GoodPlan plan) (r : ℕ) (l : r < length (row
   abbrev g : Running
   g = running (said plan)
 
-  meets : Runs (said plan) (running (said plan))
-  meets = runs plan good
-
   pub knows-taken : (n : ℕ) → Knows plan r (g .next s (take n)) log last
   knows-taken n =
-      ⊎-elim (λ e. rw e k) (λ (t, rest, x). knows-still (x .number) (ap (λ xs. getD xs r 0) (x .rxTimers)) k) (take-outcome (said plan) g meets s shape n)
+      ⊎-elim (λ e. rw e k) (λ (e, rest, q, answer, payload, x). knows-still (x .number) (ap (λ xs. getD xs r 0) (x .rxTimers)) k)
+      (take-outcome (said plan) g (runs plan good) s shape n)
 
   pub knows-full : (t : ℕ) → Knows plan r (g .next s (fullness t)) log last
-  knows-full t = rw (fullness-outcome (said plan) g meets s shape t) k
+  knows-full t = rw (fullness-outcome (said plan) g (runs plan good) s shape t) k

@@ -20,8 +20,8 @@ use Rattle.tables.specs.Reads.{rowAt}
 use Rattle.model.specs.Plan.{said}
 use Rattle.model.specs.State.{State}
 use Rattle.model.specs.Calls.{tick, ticked, Running, running}
-use Rattle.model.specs.Words.{Shape}
-use Rattle.model.specs.TickRules.{RxExpires, Done}
+use Rattle.model.specs.Words.{LinRow, Shape}
+use Rattle.model.specs.TickRules.{RxExpires, TimesOut, Done}
 use Rattle.model.specs.Rules.{Runs}
 use Rattle.model.proofs.Meets.{runs}
 use Rattle.model.proofs.Outcomes.{TickOutcome, tick-outcome}
@@ -62,24 +62,25 @@ module _ {plan : List ℕ} (good : GoodPlan plan) (r : ℕ) (l : r < length (row
           rw (ap (λ j. getD (firstOf (length (rowsOf plan)) (w .given)) j 0) (sub-zero r) ∙ getD-take (length (rowsOf plan)) (w .given) r 0 l)
           at (report-tells r 0 (firstOf (length (rowsOf plan)) (w .given)) (omega arith))
 
-      -- an expiry is reported
-      reported : RxExpires (said plan) s r → getD (w .given) r 0 ≡ 0 → ⊥
+      -- a timeout is reported
+      reported : TimesOut (said plan) s r → getD (w .given) r 0 ≡ 0 → ⊥
       reported x z = go (ℕ-discrete (getD (s .longs) r 0) 1)
         where
           go : Dec (getD (s .longs) r 0 ≡ 1) → ⊥
           go (yes d) = omega (arith, w .reports .long r x d)
           go (no d) = omega (arith, w .reports .short r x d)
 
-      -- the last tick of those that were left, and any other
-      ticks-on : (x y : Acceptance) → x .ticks ≡ suc (y .ticks) → lastFailed r log ≡ some 0 → Soon plan r s y
+      -- the last tick of those that were left, and any other, of a source that is not LIN
+      ticks-on : (LinRow (said plan) r → ⊥) → (x y : Acceptance) → x .ticks ≡ suc (y .ticks) → lastFailed r log ≡ some 0 → Soon plan r s y
           → Timed plan r (g .next s (tick report)) (log ++ told) x
-      ticks-on x y e f (zero, due, few, more) = absurd (omega (arith, due .all))
-      ticks-on x y e f (suc zero, due, few, more) =
+      ticks-on c x y e f (zero, due, few, more) = absurd (omega (arith, due .all))
+      ticks-on c x y e f (suc zero, due, few, more) =
           let (divides, one-left) = due-last _ handled _ _ due in
-          ⊎-elim (λ (nothing, z). absurd (reported (record { frame = l; handled = divides; last = one-left }) z))
+          let expires : RxExpires (said plan) s r = record { frame = l; handled = divides; last = one-left } in
+          ⊎-elim (λ (nothing, z). absurd (reported (record { expires = expires; notLin = c }) z))
           (λ (now, d). inr (failed-now r log told 1 now, omega (arith, more))) tells
-      ticks-on x y e f (suc (suc ticks), due, few, more) =
-          let quiet = w .reports .nothing r l (λ z. due-later _ handled _ _ ticks due (z .handled) (z .last)) in
+      ticks-on c x y e f (suc (suc ticks), due, few, more) =
+          let quiet = w .reports .nothing r l (λ z. due-later _ handled _ _ ticks due (z .expires .handled) (z .expires .last)) in
           ⊎-elim
           (λ (nothing, z).
           inl (
@@ -95,18 +96,18 @@ module _ {plan : List ℕ} (good : GoodPlan plan) (r : ℕ) (l : r < length (row
             payload =
                 accepted-more r log told ∙ ap (λ y. orElse y (lastAccepted r log)) (report-accepts r 0 (firstOf (length (rowsOf plan)) (w .given)))
                 ∙ k .payload ∙ older-payload last;
-            timed = λ h x is. by-last x h last refl is;
+            timed = λ c h x is. by-last c x h last refl is;
           }
         where
-          by-last : (x : Acceptance) → 0 < rowAt plan r .frame .reload → (y : Option Acceptance) → last ≡ y → older y ≡ some x
+          by-last : (LinRow (said plan) r → ⊥) → (x : Acceptance) → 0 < rowAt plan r .frame .reload → (y : Option Acceptance) → last ≡ y → older y ≡ some x
               → Timed plan r (g .next s (tick report)) (log ++ told) x
-          by-last x h none e is = absurd (differ cc)
-          by-last x h (some y) e is =
+          by-last c x h none e is = absurd (differ cc)
+          by-last c x h (some y) e is =
               let one-more : x .ticks ≡ suc (y .ticks) = sym (ap agesOf is) in
-              ⊎-elim (λ (f, left). ticks-on x y one-more f left)
+              ⊎-elim (λ (f, left). ticks-on c x y one-more f left)
               (λ (f, more).
               inr (⊎-elim (λ (nothing, z). failed-stays r log told nothing ∙ f) (λ (now, d). failed-now r log told 1 now) tells, omega (arith, more)))
-              (k .timed h y e)
+              (k .timed c h y e)
 
     pub knows-ticked : (x : Ticked) (given : List ℕ) → g .answer s (tick report) ≡ ticked x given → Ticks x given (g .next s (tick report))
     unfolding toldTick byTick

@@ -2,7 +2,9 @@ pub mod FailureBits
 pub mod Due
 pub mod Logs
 pub mod Knows
+pub mod KnowsAcceptances
 pub mod KnowsReceptions
+pub mod KnowsResponses
 pub mod KnowsTicks
 pub mod AnyCalls
 pub mod HandedBits

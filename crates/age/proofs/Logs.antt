@@ -91,7 +91,7 @@ zero-accepted r (e ∷ log) f g =
     go (some v) f earlier here = earlier f
     go none f earlier here = event-zero r e f here
 
--- ---- a report
+-- ---- a report, and "no response"
 
 expired-other : (r k : ℕ) (log : List RxEvent) → (r ≡ k → ⊥) → lastFailed r (expired k ∷ log) ≡ lastFailed r log
 unfolding lastFailed failedBy
@@ -100,6 +100,16 @@ expired-other r k log d = rw (passes {A = Option ℕ} _ (some 1) none (ne-eqb r 
 expired-own : (r k : ℕ) (log : List RxEvent) → r ≡ k → lastFailed r log ≡ none → lastFailed r (expired k ∷ log) ≡ some 1
 unfolding lastFailed failedBy orElse
 expired-own r k log e f = rw (f, picks {A = Option ℕ} _ (some 1) none (eq-eqb r k e))
+
+-- one that is told by itself
+module _ (r : ℕ) (log : List RxEvent) (q : ℕ) where
+  pub expired-accepts : lastAccepted r (log ++ expired q ∷ []) ≡ lastAccepted r log
+  unfolding lastAccepted acceptedOf orElse
+  expired-accepts = accepted-more r log (expired q ∷ [])
+
+  pub expired-anothers : (r ≡ q → ⊥) → lastFailed r (log ++ expired q ∷ []) ≡ lastFailed r log
+  unfolding lastFailed orElse
+  expired-anothers d = failed-more r log (expired q ∷ []) ∙ ap (λ y. orElse y (lastFailed r log)) (expired-other r q [] d)
 
 pub report-accepts : (r k : ℕ) (xs : List ℕ) → lastAccepted r (toldReport k xs) ≡ none
 unfolding toldReport lastAccepted acceptedOf

@@ -14,27 +14,32 @@ use Rattle.bits.specs.Owners.{owned, clash}
 use Rattle.clock.specs.Counter.{Prescaler, one, two, ten, twenty}
 use Rattle.clock.specs.Timer.{lowered}
 use Rattle.records.specs.declared.record.RxFrame.{RxFrame}
+use Rattle.records.specs.declared.record.NodeType.the-variants.{Can}
+use Rattle.records.specs.declared.record.Entry.{Entry}
 use Rattle.records.specs.Kinds.{formOf, lengthOf, eightAt, txAt, rxAt, fieldsAt, kindOf, stageOfKind, stageOf}
 use Rattle.records.specs.Records.{recordAt, sizeOf, recordsFrom, recordsAt, records}
+use Rattle.records.specs.Nodes.{typeOf, isLin, frame}
 use Rattle.plan.specs.Progress.{keyOf, counted, rowAfter, after, start}
-use Rattle.plan.specs.Tests.{followed, isKind, isWhole, mayStand, hasRoom, isPrescaler, zeroPast, txInRange}
-use Rattle.plan.specs.Tests.{rxInRange, inRange, rises, inData, isFree, indicatorInData, indicatorIsFree}
+use Rattle.plan.specs.Tests.{followed, isKind, isWhole, mayStand, canFirst, hasRoom, isPrescaler, zeroPast, txInRange}
+use Rattle.plan.specs.Tests.{rxInRange, inRange, frameFits, fitsNode, rises, inData, isFree, indicatorInData, indicatorIsFree}
 use Rattle.plan.specs.Check.{need, placed, judged, sizesAfter, setsAfter, ended, verdictOf, checkOn, checkPlan}
 use Rattle.plan.specs.declared.verdict.Verdict.the-variants.{Good}
-use Rattle.plan.specs.Rows.{copy, withFailure, claimsFrom, awaited, rowOf, rowsFrom, rowsOf, txFrames, txOf, nodesIn, orderIn}
+use Rattle.plan.specs.Rows.{copy, withFailure, claimsFrom, awaited, rowOf, rowsFrom, rowsOf, txFrames, txOf, nodesIn, typesIn, orderIn}
 use Rattle.facts.specs.Good.{Each}
 use Rattle.facts.specs.PlanCases.{head, node, signal, destination}
 use Rattle.answers.specs.declared.Received.the-variants.{Accepted}
 use Rattle.answers.specs.declared.Ticked.the-variants.{Done}
+use Rattle.answers.specs.declared.Framing.the-variants as framing
+use Rattle.answers.specs.declared.TakenFrame.{TakenFrame}
 use Rattle.answers.specs.declared.Taken.the-variants.{Frame}
 use Rattle.model.specs.Plan.{Plan, said}
 use Rattle.model.specs.State.{State, withNumber}
 use Rattle.model.specs.Opening.{mapped, begun}
 use Rattle.model.specs.Scheduling.{isIn, joined, scheduled}
 use Rattle.model.specs.Reception.{find, sentIf, putBy, put, restarted, accepted, foundAnswer, foundState, receivedAnswer, received as receivedState}
-use Rattle.model.specs.Tick.{handled, txLowered, txTurn, txTurns, failedBy, failed, expired, rxLowered, rxTurn, rxTurns, tickedState}
+use Rattle.model.specs.Tick.{handled, txLowered, txTurn, txTurns, failedBy, failed, expired, rxExpiry, rxLowered, rxTurn, rxTurns, tickedState}
 use Rattle.model.specs.Tick.{tickAnswer, tickReport, ticked as tickedIf}
-use Rattle.model.specs.Take.{oldestAnswer, oldestPayload, takenAnswer, takenPayload}
+use Rattle.model.specs.Take.{handed, framingOf, entryAnswer, oldestAnswer, oldestPayload, takenAnswer, takenPayload}
 use Rattle.model.specs.Calls.{Call, reception, tick, take, received, ticked, taken, answerOf, nextOf}
 use Rattle.age.proofs.Due.{prescaler-range}
 use Rattle.age.proofs.Quiet.{Sets, fell}
@@ -59,8 +64,8 @@ oneSource e r p = sink ++ source e r p
 
 pub one-source-good : (r : ℕ) {e p : ℕ} → Enable e → Prescaler p → checkPlan (oneSource e r p) ≡ Good 1 1 1
 unfolding oneSource pick digit setDigit owned clash formOf lengthOf eightAt txAt rxAt fieldsAt recordAt kindOf stageOfKind stageOf sizeOf recordsFrom
-    recordsAt records keyOf counted rowAfter after start followed isKind isWhole mayStand hasRoom isPrescaler zeroPast txInRange rxInRange inRange rises
-    inData isFree indicatorInData indicatorIsFree need placed judged sizesAfter setsAfter ended verdictOf checkOn checkPlan
+    recordsAt records keyOf counted rowAfter after start followed isKind isWhole mayStand canFirst hasRoom isPrescaler zeroPast txInRange rxInRange
+    inRange frameFits fitsNode rises inData isFree indicatorInData indicatorIsFree need placed judged sizesAfter setsAfter ended verdictOf checkOn checkPlan
 one-source-good r off one = refl
 one-source-good r off two = refl
 one-source-good r off ten = refl
@@ -97,6 +102,7 @@ abbrev pub planOf : ℕ → ℕ → ℕ → Plan
 planOf e r p =
     record {
       nodes = 1;
+      types = Can ∷ [];
       order = 0;
       tx =
           record {
@@ -122,11 +128,14 @@ planOf e r p =
 module _ (e r p : ℕ) where
   pub one-source-says : said (oneSource e r p) ≡ planOf e r p
   unfolding oneSource pick formOf lengthOf eightAt txAt rxAt fieldsAt recordAt kindOf sizeOf recordsFrom recordsAt records claimsFrom rowOf rowsFrom
-      rowsOf txFrames txOf nodesIn orderIn
+      rowsOf txFrames txOf nodesIn typesIn typeOf orderIn
   one-source-says = refl
 
   pub one-source-order : orderIn (records (oneSource e r p)) ≡ 0
   one-source-order = ap (λ x. x .order) one-source-says
+
+  pub one-source-types : typesIn (records (oneSource e r p)) ≡ Can ∷ []
+  one-source-types = ap (λ x. x .types) one-source-says
 
   pub one-source-rows : rowsOf (oneSource e r p) ≡ planOf e r p .rows
   one-source-rows = ap (λ x. x .rows) one-source-says
@@ -140,6 +149,10 @@ brought = 0x2C ∷ []
 abbrev pub given : List ℕ
 given = 0x2C ∷ 0x00 ∷ []
 
+-- the frame that it is taken as
+abbrev pub takenFrame : TakenFrame
+takenFrame = record { tx = record { 0 = 0 }; id = 0x100; size = 2; waiting = 0; framing = framing.Can }
+
 abbrev pub aFix : Call
 aFix = reception 0 0x20 brought
 
@@ -147,7 +160,7 @@ abbrev pub aTick : Call
 aTick = tick (0 ∷ [])
 
 -- a state, by what is kept and waits, the number of the next tick, and what the Rx timer holds
-abbrev pub stateOf : List ℕ → List ℕ → ℕ → ℕ → State
+abbrev pub stateOf : List ℕ → List Entry → ℕ → ℕ → State
 stateOf kept waiting n v = record { number = n; kept = kept ∷ []; txTimers = 0 ∷ []; rxTimers = v ∷ []; longs = 0 ∷ []; queues = waiting ∷ [] }
 
 -- before any reception, and after a fix
@@ -155,11 +168,11 @@ abbrev pub blank : ℕ → ℕ → State
 blank = stateOf (0 ∷ 0 ∷ 0 ∷ 0 ∷ 0 ∷ 0 ∷ 0 ∷ 0 ∷ []) []
 
 abbrev pub fixed : ℕ → ℕ → State
-fixed = stateOf (0x2C ∷ 0 ∷ 0 ∷ 0 ∷ 0 ∷ 0 ∷ 0 ∷ 0 ∷ []) (0 ∷ [])
+fixed = stateOf (0x2C ∷ 0 ∷ 0 ∷ 0 ∷ 0 ∷ 0 ∷ 0 ∷ 0 ∷ []) (frame 0 ∷ [])
 
 pub fix-next : (r p : ℕ) {e : ℕ} → Enable e → (n v : ℕ) → nextOf (planOf e r p) (blank n v) aFix ≡ fixed n r
 unfolding nextOf receivedState find foundState accepted restarted put putBy sentIf withFailure awaited scheduled isIn joined copied differs bitAt setBit
-    digitOf digit setDigit pick
+    digitOf digit setDigit pick isLin
 fix-next r p off n v = refl
 fix-next r p on n v = refl
 
@@ -169,14 +182,14 @@ module _ (e r p : ℕ) where
   begins = refl
 
   pub fix-answer : (n v : ℕ) → answerOf (planOf e r p) (blank n v) aFix ≡ received Accepted
-  unfolding answerOf receivedAnswer find foundAnswer pick
+  unfolding answerOf receivedAnswer find foundAnswer pick isLin
   fix-answer n v = refl
 
-  pub take-answer : (n v : ℕ) → answerOf (planOf e r p) (fixed n v) (take 0) ≡ taken (Frame (record { 0 = 0 }) 0x100 2 0) given
-  unfolding answerOf takenAnswer takenPayload oldestAnswer oldestPayload pick
+  pub take-answer : (n v : ℕ) → answerOf (planOf e r p) (fixed n v) (take 0) ≡ taken (Frame takenFrame) given
+  unfolding answerOf takenAnswer takenPayload oldestAnswer oldestPayload entryAnswer handed framingOf pick isLin
   take-answer n v = refl
 
-  module _ (kept waiting : List ℕ) (n v : ℕ) where
+  module _ (kept : List ℕ) (waiting : List Entry) (n v : ℕ) where
     abbrev s : ℕ → State
     s timer = stateOf kept waiting n timer
 
@@ -193,7 +206,7 @@ module _ (e r p : ℕ) where
     off-expiry d = rw (ne-eqb e 1 d)
 
     pub tick-next : (Sets e p n v → ⊥) → nextOf (planOf e r p) (s v) aTick ≡ stateOf kept waiting (suc n) (fell r p n v)
-    unfolding nextOf tickedIf tickedState pick handled rxLowered rxTurn rxTurns fell
+    unfolding nextOf tickedIf tickedState pick isLin handled rxExpiry rxLowered rxTurn rxTurns fell
     tick-next d = rw sends-none (go (ℕ-discrete (n % p) 0))
       where
         go : Dec (n % p ≡ 0) → withNumber (rxTurns (planOf e r p) 1 (s v)) (suc n) ≡ stateOf kept waiting (suc n) (fell r p n v)

@@ -11,6 +11,7 @@ use Rattle.base.specs.Pick.{pick}
 use Rattle.base.proofs.Picks.{picks}
 use Rattle.clock.specs.Counter.{Prescaler}
 use Rattle.records.specs.declared.record.RxFrame.{RxFrame}
+use Rattle.records.specs.declared.record.Entry.{Entry}
 use Rattle.answers.specs.declared.Opened.the-variants.{Open}
 use Rattle.answers.specs.declared.Received.the-variants.{Accepted}
 use Rattle.answers.specs.declared.Ticked.the-variants.{Done}
@@ -28,7 +29,7 @@ use Rattle.age.specs.Acceptance.{Acceptance, byReception, byTick, older,
 use Rattle.age.specs.AgeOfAFix.{Handed}
 use Rattle.age.proofs.AnyCalls.{follows}
 use Rattle.age.proofs.Quiet.{Sets, fell, Quiet}
-use Rattle.age.proofs.OneSource.{Enable, oneSource, one-source-good, one-source-bytes, frameOf, planOf, one-source-says, one-source-rows}
+use Rattle.age.proofs.OneSource.{Enable, oneSource, one-source-good, one-source-bytes, frameOf, planOf, one-source-says, one-source-rows, takenFrame}
 use Rattle.age.proofs.OneSource.{brought, given, aFix, aTick, stateOf, blank, fixed, begins, fix-answer, fix-next, take-answer, tick-answer, tick-next}
 
 -- k ticks with no reception among them
@@ -58,7 +59,7 @@ module _ {e r p : ℕ} (enable : Enable e) (byte : r < 256) (prescaler : Prescal
   unfolding running
   does h c = rw (one-source-says e r p) at (follows h c)
 
-  module _ {kept waiting : List ℕ} {n v : ℕ} {a : List ℕ} (h : Held (oneSource e r p) a (stateOf kept waiting n v)) where
+  module _ {kept : List ℕ} {waiting : List Entry} {n v : ℕ} {a : List ℕ} (h : Held (oneSource e r p) a (stateOf kept waiting n v)) where
     tick-done : tickAnswer a (0 ∷ []) ≡ Done
     unfolding answerIn
     tick-done = let x = does h aTick .0 ∙ tick-answer e r p kept waiting n v in cc
@@ -139,9 +140,8 @@ module _ {e r p : ℕ} (enable : Enable e) (byte : r < 256) (prescaler : Prescal
             bytes = one-source-bytes enable byte prescaler;
             opened = silent-past k _ _ ∙ rw opens;
             node = 0;
-            id = 0x100;
-            size = 2;
-            waiting = 0;
+            frame = takenFrame;
+            tx = refl;
             takes = does (keeps .held) (take 0) .0 ∙ take-answer e r p (keeps .number) (keeps .timer);
           }
 

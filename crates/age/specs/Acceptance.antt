@@ -10,11 +10,14 @@ use Rattle.answers.specs.declared.Opened.{Opened}
 use Rattle.answers.specs.declared.Opened.the-variants as opened
 use Rattle.answers.specs.declared.Received.{Received}
 use Rattle.answers.specs.declared.Received.the-variants.{Accepted, NoRow, TooShort, Refused}
+use Rattle.answers.specs.declared.Responded.{Responded}
+use Rattle.answers.specs.declared.Responded.the-variants as ofResponse
 use Rattle.answers.specs.declared.Ticked.{Ticked}
 use Rattle.answers.specs.declared.Ticked.the-variants as ticked
 use Rattle.reception.specs.Reception.{receivedAnswer}
+use Rattle.polling.specs.Polling.{respondedAnswer}
 use Rattle.ticking.specs.Tick.{tickAnswer}
-use Rattle.model.specs.Calls.{Step, opening, reception, tick, take, fullness, call}
+use Rattle.model.specs.Calls.{Step, opening, reception, response, noResponse, tick, take, fullness, call}
 use Rattle.history.specs.Calls.{openAnswer, stepped}
 
 pub record Acceptance : Type 0 where
@@ -36,6 +39,13 @@ byReception x n id payload (NoRow place) last = last
 byReception x n id payload TooShort last = last
 byReception x n id payload (Refused why) last = last
 
+-- on LIN a response is what is accepted (document 02, Ticket 2)
+unfoldable pub byResponse : RxFrame → ℕ → ℕ → List ℕ → Responded → Option Acceptance → Option Acceptance
+byResponse x n id payload ofResponse.Accepted last = byReception x n id payload Accepted last
+byResponse x n id payload ofResponse.TooShort last = last
+byResponse x n id payload ofResponse.WrongSum last = last
+byResponse x n id payload (ofResponse.Refused why) last = last
+
 unfoldable pub older : Option Acceptance → Option Acceptance
 older none = none
 older (some x) = some (record { payload = x .payload; ticks = suc (x .ticks) })
@@ -50,6 +60,8 @@ byTick (ticked.Refused why) last = last
 unfoldable pub acceptanceAfter : RxFrame → Option Acceptance → Step → List ℕ → Option Acceptance
 acceptanceAfter x last (opening plan) a = byOpening (openAnswer plan a) last
 acceptanceAfter x last (call (reception n id payload)) a = byReception x n id payload (receivedAnswer a n id payload) last
+acceptanceAfter x last (call (response n id payload sum)) a = byResponse x n id payload (respondedAnswer a n id payload sum) last
+acceptanceAfter x last (call (noResponse n id)) a = last
 acceptanceAfter x last (call (tick report)) a = byTick (tickAnswer a report) last
 acceptanceAfter x last (call (take n)) a = last
 acceptanceAfter x last (call (fullness t)) a = last

@@ -8,10 +8,12 @@ use Prim.Native.Nat.{ℕ, _+_, _*_, _<_}
 use lib.ListN.{length}
 use Rattle.base.specs.Numbers.{Bytes}
 use Rattle.bits.specs.Payload.{bitAt}
+use Rattle.records.specs.declared.record.NodeType.the-variants.{Can}
 use Rattle.records.specs.Records.{records}
 use Rattle.plan.specs.Rows.{rowsOf, orderIn}
+use Rattle.answers.specs.declared.TakenFrame.{TakenFrame}
 use Rattle.answers.specs.declared.Taken.the-variants.{Frame}
-use Rattle.tables.specs.Reads.{rowAt}
+use Rattle.tables.specs.Reads.{rowAt, typeAt}
 use Rattle.model.specs.Calls.{Step, take, taken}
 use Rattle.history.specs.Calls.{answerIn, afterIn}
 use Rattle.history.specs.Past.{pastOf}
@@ -23,14 +25,15 @@ pub record Handed (a : List ℕ) (calls : List Step) (plan : List ℕ) (t : ℕ)
   pub bytes : Bytes plan
   pub opened : pastOf calls a .plan ≡ some plan
   pub node : ℕ
-  pub id : ℕ
-  pub size : ℕ
-  pub waiting : ℕ
-  pub takes : answerIn (afterIn a calls) (take node) ≡ taken (Frame (record { 0 = t }) id size waiting) payload
+  pub frame : TakenFrame
+  pub tx : frame .tx .0 ≡ t
+  pub takes : answerIn (afterIn a calls) (take node) ≡ taken (Frame frame) payload
 
--- "that source was accepted at least once since opening": Rx frame r, whose indicator owns the bit at its position in Tx frame t
+-- "For a CAN source with its indicator enabled": Rx frame r, whose indicator owns the bit at its position in Tx frame t; "that source was accepted at
+-- least once since opening". A LIN source has no timer that sets its bit, so of it the sentence does not speak
 pub record Heard (a : List ℕ) (calls : List Step) (plan : List ℕ) (t r : ℕ) (last : Acceptance) : Type 0 where
   pub row : r < length (rowsOf plan)
+  pub can : typeAt plan (rowAt plan r .frame .node) ≡ Can
   pub indicates : owner plan t (rowAt plan r .frame .position) ≡ indicator r
   pub accepted : lastAcceptance (rowAt plan r .frame) calls a ≡ some last
 
@@ -42,17 +45,28 @@ handedFailure plan payload r = bitAt (orderIn (records plan)) payload (rowAt pla
 abbrev pub bound : List ℕ → ℕ → ℕ
 bound plan r = rowAt plan r .frame .reload * rowAt plan r .frame .prescaler
 
+-- "the frame's bits from that source are those of that acceptance"
+abbrev pub BitsOf : List ℕ → ℕ → List ℕ → ℕ → Acceptance → Type 0
+BitsOf plan t payload r last =
+    (b k : ℕ) → owner plan t b ≡ signal r k → bitAt (orderIn (records plan)) payload b ≡ bitAt (orderIn (records plan)) (last .payload) k
+
 pub record Recent (plan : List ℕ) (t : ℕ) (payload : List ℕ) (r : ℕ) (last : Acceptance) : Type 0 where
   -- "fewer than r times p unrefused ticks have passed since the last acceptance"
   pub few : last .ticks < bound plan r
-  -- "the frame's bits from that source are those of that acceptance"
-  pub bits : (b k : ℕ) → owner plan t b ≡ signal r k → bitAt (orderIn (records plan)) payload b ≡ bitAt (orderIn (records plan)) (last .payload) k
+  pub bits : BitsOf plan t payload r last
 
 abbrev pub AgeOfAFix : Type 0
 AgeOfAFix =
     (a : List ℕ) (calls : List Step) (plan : List ℕ) (t : ℕ) (payload : List ℕ) → Handed a calls plan t payload
     → (r : ℕ) (last : Acceptance) → Heard a calls plan t r last → 0 < rowAt plan r .frame .reload → handedFailure plan payload r ≡ 0
     → Recent plan t payload r last
+
+-- ---- a source of any kind, on CAN or on LIN, with or without an indicator: its bits are those of its last acceptance
+
+abbrev pub BitsOfAnySource : Type 0
+BitsOfAnySource =
+    (a : List ℕ) (calls : List Step) (plan : List ℕ) (t : ℕ) (payload : List ℕ) → Handed a calls plan t payload
+    → (r : ℕ) (last : Acceptance) → r < length (rowsOf plan) → lastAcceptance (rowAt plan r .frame) calls a ≡ some last → BitsOf plan t payload r last
 
 -- ---- a frame with several sources: each has its own bound, so that what stands together was accepted that close together
 

@@ -1,5 +1,6 @@
 // What the calls answer.
 use plan::verdict::Reason;
+use records::record::RxNumber;
 use records::record::TxNumber;
 ghost use mathlib.Core.Path.{_≡_};
 ghost use Rattle.plan.specs.Refusals.{numberOf};
@@ -21,6 +22,8 @@ pub enum Refusal {
     ShortReport,
     // 15: no such Tx frame
     NoFrame,
+    // 16: a call for a LIN node where the node is none or has no such Rx frame, or the other reception on a LIN node
+    WrongCall,
 }
 
 pub enum Opened {
@@ -38,19 +41,59 @@ pub enum Received {
     Refused(Refusal),
 }
 
+// What a response on LIN is answered.
+pub enum Responded {
+    // 0
+    Accepted,
+    // 2: a payload shorter than the row's size
+    TooShort,
+    // 3: the checksum is not that of the protected identifier and the payload
+    WrongSum,
+    Refused(Refusal),
+}
+
+// What "no response" is answered: as a report would say.
+pub enum Silence {
+    // 1: a short timeout
+    Short,
+    // 2: a long timeout
+    Long,
+    Refused(Refusal),
+}
+
 pub enum Ticked {
     Done,
     Refused(Refusal),
 }
 
+// What is sent with a frame: nothing on CAN; on LIN the protected identifier and the checksum of the payload.
+pub enum Framing {
+    Can,
+    Lin { protected: u8, checksum: u8 },
+}
+
+pub struct TakenFrame {
+    pub tx: TxNumber,
+    pub id: usize,
+    pub size: usize,
+    // how many still wait on that node
+    pub waiting: usize,
+    pub framing: Framing,
+}
+
+// A request for an Rx frame of a LIN node, which has no payload.
+pub struct TakenRequest {
+    pub rx: RxNumber,
+    pub id: usize,
+    pub size: usize,
+    pub waiting: usize,
+    pub protected: u8,
+}
+
 pub enum Taken {
     Nothing,
-    Frame {
-        tx: TxNumber,
-        id: usize,
-        size: usize,
-        waiting: usize,
-    },
+    Frame(TakenFrame),
+    Request(TakenRequest),
     Refused(Refusal),
 }
 
@@ -87,5 +130,6 @@ pub fn refusal_number(why: Refusal) -> usize
         Refusal::LongPayload => 13,
         Refusal::ShortReport => 14,
         Refusal::NoFrame => 15,
+        Refusal::WrongCall => 16,
     }
 }

@@ -16,8 +16,8 @@ use Rattle.bits.specs.Payload.{bitAt, setBit, copied}
 use Rattle.bits.proofs.Fitting.{fitting-le}
 use Rattle.plan.specs.Rows.{Source, copy, failure, widthOf, Claim}
 use Rattle.area.specs.declared.queue.Ends.{Ends}
-use Rattle.area.specs.Layout.{txReloadsStart, fullStart, entriesStart, payloadsStart, planStart, entryCount, queue, waits, txTimer, spot}
-use Rattle.area.specs.Queue.{endsOf, slot, behind, setEnds, queued, scheduled, oldest, dequeued}
+use Rattle.area.specs.Layout.{txReloadsStart, fullStart, entriesStart, payloadsStart, planStart, requestsStart, entryCount, queue, waits, txTimer, spot}
+use Rattle.area.specs.Queue.{endsOf, slot, behind, setEnds, queued, scheduled, requested, oldest, dequeued}
 use Rattle.area.specs.Claims.{RxEvent, accepted, expired, sentIf, doneBy, sentBy, done, allDone}
 
 pub record Same (P : ℕ → Type 0) (a b : List ℕ) : Type 0 where
@@ -121,6 +121,10 @@ module _ {P : ℕ → Type 0} (ends : (n : ℕ) → n < 16 → NoEnds P n) (ring
       (same-set _ _ timer (same-set _ _ never (same-queued a _ t (ends _ (omega arith)) ring)))
       (same-refl a)
 
+  pub same-requested : (a : List ℕ) (r : ℕ) → (P (waits (requestsStart + r)) → ⊥) → Same P a (requested a r)
+  unfolding requested
+  same-requested a r never = same-pick _ _ _ (same-set _ _ never (same-queued a _ _ (ends _ (omega arith)) ring)) (same-refl a)
+
   pub same-sentIf :
       (flags : ℕ) (changed : Bool) (a : List ℕ) (t : ℕ) → (P (waits t) → ⊥) → (P (txTimer t) → ⊥) → Same P a (sentIf flags changed a t)
   unfolding sentIf
@@ -200,6 +204,9 @@ module _ {P : ℕ → Type 0} (f : Spared P) where
   pub spared-scheduled : (a : List ℕ) (t : ℕ) → t < 256 → Same P a (scheduled a t)
   spared-scheduled a t h =
       same-scheduled (f .ends) ring a t (f .low _ (omega arith) (omega arith)) (f .low _ (omega arith) (omega arith))
+
+  pub spared-requested : (a : List ℕ) (r : ℕ) → r < 256 → Same P a (requested a r)
+  spared-requested a r h = same-requested (f .ends) ring a r (f .low _ (omega arith) (omega arith))
 
   pub spared-sentIf : (flags : ℕ) (changed : Bool) (a : List ℕ) (t : ℕ) → t < 256 → Same P a (sentIf flags changed a t)
   spared-sentIf flags changed a t h =

@@ -9,13 +9,15 @@ use lib.ListN.{set, take}
 use Rattle.base.specs.Numbers.{byteAt, lowAt}
 use Rattle.bits.specs.Payload.{setBit}
 use Rattle.plan.specs.Rows.{Claim}
-use Rattle.area.specs.Layout.{counterByte, orderByte, planLengthBytes, nodeCountByte, txCountBytes, rxCountBytes}
+use Rattle.area.specs.Layout.{counterByte, orderByte, planLengthBytes, nodeCountByte, canCountByte, txCountBytes, rxCountBytes}
 use Rattle.area.specs.Layout.{queuesStart, txReloadsStart, fullStart, entriesStart, planStart, planRoom, queue, txPlace, rxPlace, spot}
-use Rattle.area.specs.Layout.{marked, counter, order, nodeCount, txCount, rxCount, rxRecordPlace, planOf, stored, txFrame, rxFrame, claimsAt, claims}
-use Rattle.area.specs.Queue.{endsOf, queued, scheduled, dequeued}
+use Rattle.area.specs.Layout.{marked, counter, order, nodeCount, typeOn, txCount, rxCount, rxRecordPlace, planOf, stored, txFrame, rxFrame}
+use Rattle.area.specs.Layout.{claimsAt, claims}
+use Rattle.area.specs.Queue.{endsOf, queued, scheduled, requested, dequeued}
 use Rattle.area.specs.Claims.{RxEvent, sentIf, done, allDone}
 use Rattle.area.proofs.Frame.{Same, same-refl, same-then, same-set, same-two, same-tail, Spared, Narrow, Each}
-use Rattle.area.proofs.Frame.{spared-spot, spared-queued, spared-dequeued, spared-scheduled, spared-sentIf, spared-done, spared-allDone}
+use Rattle.area.proofs.Frame.{spared-spot, spared-queued, spared-dequeued, spared-scheduled, spared-requested, spared-sentIf}
+use Rattle.area.proofs.Frame.{spared-done, spared-allDone}
 
 -- ---- the places, by what they are not: an end of a queue, a timer, a long counter or a wait, a ring entry, a payload or a mask, the counter
 
@@ -78,6 +80,9 @@ kept-dequeued = spared-dequeued planned
 pub kept-scheduled : (a : List ℕ) (t : ℕ) → t < 256 → Kept a (scheduled a t)
 kept-scheduled = spared-scheduled planned
 
+pub kept-requested : (a : List ℕ) (r : ℕ) → r < 256 → Kept a (requested a r)
+kept-requested = spared-requested planned
+
 pub kept-sentIf : (flags : ℕ) (changed : Bool) (a : List ℕ) (t : ℕ) → t < 256 → Kept a (sentIf flags changed a t)
 kept-sentIf = spared-sentIf planned
 
@@ -100,6 +105,9 @@ counter-dequeued a n h = spared-dequeued moves a n h .at counterByte refl
 
 pub counter-scheduled : (a : List ℕ) (t : ℕ) → t < 256 → counter (scheduled a t) ≡ counter a
 counter-scheduled a t h = spared-scheduled moves a t h .at counterByte refl
+
+pub counter-requested : (a : List ℕ) (r : ℕ) → r < 256 → counter (requested a r) ≡ counter a
+counter-requested a r h = spared-requested moves a r h .at counterByte refl
 
 pub counter-done : (o : ℕ) (e : RxEvent) (a : List ℕ) (c : Claim) → Narrow c → counter (done o e a c) ≡ counter a
 counter-done o e a c n = spared-done moves o e a c n .at counterByte refl
@@ -128,6 +136,10 @@ module _ {a b : List ℕ} (k : Kept a b) where
 
   pub nodeCount-kept : nodeCount b ≡ nodeCount a
   nodeCount-kept = rw (header nodeCountByte (omega arith) (λ e. omega arith))
+
+  pub typeOn-kept : (n : ℕ) → typeOn b n ≡ typeOn a n
+  unfolding typeOn
+  typeOn-kept n = rw (header canCountByte (omega arith) (λ e. omega arith))
 
   pub txCount-kept : txCount b ≡ txCount a
   txCount-kept = rw (two txCountBytes (omega arith) (omega arith))

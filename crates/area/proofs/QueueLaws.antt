@@ -1,4 +1,4 @@
--- A node's queue as a list, the oldest first: a frame joins at the end, the oldest leaves, and every other node's queue stays.
+-- A node's queue as a list, the oldest first: a frame or a request joins at the end, the oldest leaves, and every other node's queue stays.
 use mathlib.Core.Path.{_≡_, refl, ap, _∙_}
 use mathlib.Core.Logic.{_≢_, _⊎_, inl, inr, ⊎-elim}
 use mathlib.Core.List.{List, [], _∷_, _++_}
@@ -14,8 +14,9 @@ use Rattle.base.specs.Numbers.{byteAt, lowAt, setLow}
 use Rattle.base.proofs.Picks.{picks, passes, cases}
 use Rattle.base.proofs.Ranges.{at-most-is, low-same}
 use Rattle.area.specs.declared.queue.Ends.{Ends}
-use Rattle.area.specs.Layout.{queuesStart, txReloadsStart, entriesStart, payloadsStart, entryCount, LongEnough, queue, entry, waits, txTimer, txFrame}
-use Rattle.area.specs.Queue.{endsOf, past, slot, behind, entryAt, added, removed, setEnds, queued, scheduled, oldest, dequeued}
+use Rattle.area.specs.Layout.{queuesStart, txReloadsStart, entriesStart, payloadsStart, requestsStart, waiterRange, entryCount, LongEnough}
+use Rattle.area.specs.Layout.{queue, entry, waits, txTimer, txFrame, rxFrame}
+use Rattle.area.specs.Queue.{endsOf, past, slot, behind, entryAt, added, removed, setEnds, queued, scheduled, requested, oldest, dequeued}
 use Rattle.area.specs.Queue.{entries, queueOf, Sound, Apart}
 use Rattle.area.proofs.Frame.{slot-low, slot-high, Same, same-refl, same-two, same-set, same-setLow, same-setEnds, same-queued, same-dequeued}
 
@@ -183,7 +184,7 @@ module _ (a : List ℕ) (n t : ℕ) (hn : n < 16) (ha : LongEnough a) (s : Sound
   beside j l d =
       two-kept j (same-setEnds n _ (λ k x y p. omega arith) (aside at t j d (same-refl a)))
 
-  module _ (ht : t < 256) (some : endsOf a n .waiting < endsOf a n .room) where
+  module _ (ht : t < waiterRange) (some : endsOf a n .waiting < endsOf a n .room) where
     pub ends-queued : endsOf (queued a n t) n ≡ added (endsOf a n)
     unfolding queued added
     ends-queued =
@@ -309,3 +310,20 @@ queue-scheduled a t m ht hm z =
     (queue-same {P = λ j. (j ≡ waits t → ⊥) × (j ≡ txTimer t → ⊥)} (λ j l h. (λ e. omega arith, λ e. omega arith))
     (λ j l h. (λ e. omega arith, λ e. omega arith))
     (same-set _ _ (λ p. p .1 refl) (same-set _ _ (λ p. p .0 refl) (same-refl _))) m hm)
+
+-- ---- asking
+
+-- a request that waits stays where it is
+pub requested-waiting : (a : List ℕ) (r : ℕ) → byteAt a (waits (requestsStart + r)) ≢ 0 → requested a r ≡ a
+unfolding requested
+requested-waiting a r d = passes _ _ _ (ne-eqb _ _ d)
+
+-- one that does not joins its node's queue
+pub queue-requested :
+    (a : List ℕ) (r m : ℕ) → r < 256 → m < 16 → byteAt a (waits (requestsStart + r)) ≡ 0
+    → queueOf (requested a r) m ≡ queueOf (queued a (rxFrame a r .node % 16) (requestsStart + r)) m
+unfolding requested
+queue-requested a r m hr hm z =
+    rw (picks _ _ _ (eq-eqb _ _ z))
+    (queue-same {P = λ j. j ≡ waits (requestsStart + r) → ⊥} (λ j l h e. omega arith) (λ j l h e. omega arith)
+    (same-set _ _ (λ p. p refl) (same-refl _)) m hm)

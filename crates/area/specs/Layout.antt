@@ -4,10 +4,12 @@ use Prim.Native.Nat.{ℕ, _+_, _*_, _%_, _≤_}
 use mathlib.Core.Bool.{Bool, false}
 use mathlib.Core.List.{List}
 use mathlib.Core.Option.{none}
-use lib.Dec.{leb, eqb}
+use lib.Dec.{leb, ltb, eqb}
 use lib.ListN.{length, take, drop}
 use Rattle.base.specs.Pick.{pick}
 use Rattle.base.specs.Numbers.{byteAt, twoAt, lowAt, atMost}
+use Rattle.records.specs.declared.record.NodeType.{NodeType}
+use Rattle.records.specs.declared.record.NodeType.the-variants.{Can, Lin}
 use Rattle.records.specs.declared.record.TxFrame.{TxFrame}
 use Rattle.records.specs.declared.record.RxFrame.{RxFrame}
 use Rattle.records.specs.Kinds.{txAt, rxAt, rxBytes, signalBytes}
@@ -33,6 +35,9 @@ planLengthBytes = 4
 
 abbrev pub nodeCountByte : ℕ
 nodeCountByte = 6
+
+abbrev pub canCountByte : ℕ
+canCountByte = 7
 
 abbrev pub txCountBytes : ℕ
 txCountBytes = 8
@@ -116,12 +121,19 @@ keySize = 4
 abbrev pub payloadWidth : ℕ
 payloadWidth = 8
 
--- how many entries all rings have, and the most that one can have
+-- the numbers of what can wait in a queue: a Tx frame has its own, the request for an Rx frame has one past these
+abbrev pub requestsStart : ℕ
+requestsStart = 256
+
+abbrev pub waiterRange : ℕ
+waiterRange = 512
+
+-- how many entries all rings have, and what the room of one is brought below
 abbrev pub entryCount : ℕ
 entryCount = 528
 
 abbrev pub mostRoom : ℕ
-mostRoom = 512
+mostRoom = 1024
 
 -- a node's first row, and its row count, are below this, whatever stands in the area; and a lookup finds no row past their sum
 abbrev pub rowRange : ℕ
@@ -162,7 +174,7 @@ abbrev pub long : ℕ → ℕ
 long r = longStart + r
 
 abbrev pub waits : ℕ → ℕ
-waits t = waitsStart + t
+waits k = waitsStart + k
 
 abbrev pub full : ℕ → ℕ
 full t = fullStart + 2 * t
@@ -206,6 +218,14 @@ order a = byteAt a orderByte
 
 abbrev pub nodeCount : List ℕ → ℕ
 nodeCount a = atMost 16 (byteAt a nodeCountByte)
+
+-- how many of the nodes are CAN nodes: "LIN nodes follow all CAN nodes" (document 02, Ticket 2)
+abbrev pub canCount : List ℕ → ℕ
+canCount a = byteAt a canCountByte
+
+-- the type of node n
+unfoldable pub typeOn : List ℕ → ℕ → NodeType
+typeOn a n = pick (ltb n (canCount a)) Can Lin
 
 abbrev pub txCount : List ℕ → ℕ
 txCount a = atMost 256 (lowAt a txCountBytes)

@@ -1,5 +1,5 @@
--- A node's queue: a ring of entries, each a Tx number in two bytes. Its record in the area: where the ring begins, one less than its room,
--- where the oldest entry is, and how many wait.
+-- A node's queue: a ring of entries, each a number in two bytes: of a Tx frame, or of a request. Its record in the area: where the ring begins,
+-- one less than its room, where the oldest entry is, and how many wait.
 use Prim.Native.Nat.{ℕ, zero, suc, _+_, _-_, _%_, _<_, _≤_}
 use mathlib.Core.Logic.{_⊎_}
 use mathlib.Core.List.{List, [], _∷_}
@@ -7,7 +7,10 @@ use lib.Dec.{ltb, eqb}
 use lib.ListN.{set}
 use Rattle.base.specs.Pick.{pick}
 use Rattle.base.specs.Numbers.{byteAt, lowAt, setLow, atMost}
-use Rattle.area.specs.Layout.{entryCount, mostRoom, queue, entry, waits, txReload, txTimer, txFrame}
+use Rattle.records.specs.declared.record.Entry.{Entry}
+use Rattle.records.specs.declared.record.Entry.the-variants.{Frame, Request}
+use Rattle.records.specs.Nodes.{frame, request}
+use Rattle.area.specs.Layout.{requestsStart, waiterRange, entryCount, mostRoom, queue, entry, waits, txReload, txTimer, txFrame, rxFrame}
 use Rattle.area.specs.declared.queue.Ends.{Ends}
 
 -- how many entries node n's ring has room for
@@ -35,9 +38,17 @@ slot e i = entry (atMost (entryCount - 1) (e .start + i))
 abbrev pub behind : Ends → ℕ → ℕ
 behind e k = past (e .first) k (e .room)
 
--- the Tx frame that entry i names
+-- the number of what waits at entry i
 abbrev pub entryAt : List ℕ → Ends → ℕ → ℕ
-entryAt a e i = lowAt a (slot e i) % 256
+entryAt a e i = lowAt a (slot e i) % waiterRange
+
+-- what has that number, and the number of what waits
+unfoldable pub entryOf : ℕ → Entry
+entryOf k = pick (ltb k requestsStart) (frame k) (request (k - requestsStart))
+
+unfoldable pub numberOf : Entry → ℕ
+numberOf (Frame t) = t .0
+numberOf (Request r) = requestsStart + r .0
 
 -- "Adding to and taking from a queue each give the queue as it then is."
 unfoldable pub added : Ends → Ends
@@ -49,9 +60,9 @@ removed e = record { start = e .start; room = e .room; first = past (e .first) 1
 unfoldable pub setEnds : List ℕ → ℕ → Ends → List ℕ
 setEnds a n e = setLow (setLow a (queue n + 4) (e .first)) (queue n + 6) (e .waiting)
 
--- Tx frame t at the end of node n's queue
+-- number k at the end of node n's queue
 unfoldable pub queued : List ℕ → ℕ → ℕ → List ℕ
-queued a n t = setEnds (setLow a (slot (endsOf a n) (behind (endsOf a n) (endsOf a n .waiting))) t) n (added (endsOf a n))
+queued a n k = setEnds (setLow a (slot (endsOf a n) (behind (endsOf a n) (endsOf a n .waiting))) k) n (added (endsOf a n))
 
 -- "Scheduling a frame already waiting changes nothing. Otherwise the frame joins its node's queue at the end and its Tx timer takes its reload
 -- value."
@@ -61,7 +72,14 @@ scheduled a t =
     (set (set (queued a (txFrame a t .node % 16) t) (waits t) 1) (txTimer t) (byteAt a (txReload t)))
     a
 
--- the oldest waiting frame of node n
+-- "expiry queues a request, once while it waits" (document 02, Ticket 2)
+unfoldable pub requested : List ℕ → ℕ → List ℕ
+requested a r =
+    pick (eqb (byteAt a (waits (requestsStart + r))) 0)
+    (set (queued a (rxFrame a r .node % 16) (requestsStart + r)) (waits (requestsStart + r)) 1)
+    a
+
+-- the number of what has waited longest on node n
 unfoldable pub oldest : List ℕ → ℕ → ℕ
 oldest a n = entryAt a (endsOf a n) (endsOf a n .first)
 
@@ -76,7 +94,7 @@ unfoldable pub entries : List ℕ → Ends → ℕ → ℕ → List ℕ
 entries a e k zero = []
 entries a e k (suc c) = entryAt a e (behind e k) ∷ entries a e (suc k) c
 
--- the frames that wait on node n, the oldest first
+-- the numbers of what waits on node n, the oldest first
 unfoldable pub queueOf : List ℕ → ℕ → List ℕ
 queueOf a n = entries a (endsOf a n) 0 (endsOf a n .waiting)
 

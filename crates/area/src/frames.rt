@@ -74,6 +74,21 @@ pub fn tx_flags(area: &[u8], t: TxNumber) -> u8
 
 // ---- the Rx frame whose record is at a place
 
+pub fn rx_node(area: &[u8], at: usize) -> usize
+    requires { ⌜ (at ≤ lastPlace) × LongEnough (now area) ⌝ }
+    ensures { λ n. ⌜ (n ≡ rxAt (stored (now (area .entry))) at .node % 16) × (n < 16) ⌝ }
+{
+    wide(plan_byte(area, at + 1) % 16)
+}
+
+pub fn rx_id(area: &[u8], at: usize) -> usize
+    requires { ⌜ (at ≤ lastPlace) × LongEnough (now area) ⌝ }
+    ensures { λ i. ⌜ i ≡ rxAt (stored (now (area .entry))) at .id ⌝ }
+{
+    let id = at + 2;
+    wide(plan_byte(area, id)) * 256 + wide(plan_byte(area, id + 1))
+}
+
 pub fn rx_size(area: &[u8], at: usize) -> usize
     requires { ⌜ (at ≤ lastPlace) × LongEnough (now area) ⌝ }
     ensures { λ s. ⌜ s ≡ rxAt (stored (now (area .entry))) at .size ⌝ }

@@ -18,6 +18,8 @@ pub const PLAN_LENGTH_BYTES: usize = 4;
 
 pub const NODE_COUNT_BYTE: usize = 6;
 
+pub const CAN_COUNT_BYTE: usize = 7;
+
 pub const TX_COUNT_BYTES: usize = 8;
 
 pub const RX_COUNT_BYTES: usize = 10;
@@ -68,10 +70,15 @@ pub const KEY_SIZE: usize = 4;
 
 pub const PAYLOAD_WIDTH: usize = 8;
 
-// how many entries all rings have, and the most that one can have
+// the numbers of what can wait in a queue: a Tx frame has its own, the request for an Rx frame has one past these
+pub const REQUESTS_START: usize = 256;
+
+pub const WAITER_RANGE: usize = 512;
+
+// how many entries all rings have, and what the room of one is brought below
 pub const ENTRY_COUNT: usize = 528;
 
-pub const MOST_ROOM: usize = 512;
+pub const MOST_ROOM: usize = 1024;
 
 // a node's first row, and its row count, are below this; and a lookup finds no row past their sum
 pub const ROW_RANGE: usize = 512;

@@ -1,18 +1,24 @@
-// A node's queue and scheduling.
+// A node's queue: scheduling, asking, and taking.
+use crate::frames::rx_node;
+use crate::frames::rx_record_place;
 use crate::frames::tx_node;
 use crate::layout::ENTRIES_START;
 use crate::layout::ENTRY_COUNT;
 use crate::layout::MOST_ROOM;
 use crate::layout::QUEUES_START;
+use crate::layout::REQUESTS_START;
 use crate::layout::TX_RELOADS_START;
 use crate::layout::TX_TIMERS_START;
+use crate::layout::WAITER_RANGE;
 use crate::layout::WAITS_START;
 use base::at_most;
+use records::record::Entry;
+use records::record::RxNumber;
 use records::record::TxNumber;
 ghost use mathlib.Core.Path.{_≡_};
 ghost use Prim.Native.Nat.{_+_, _≤_, _<_};
-ghost use Rattle.area.specs.Layout.{payloadsStart, mostRoom, LongEnough};
-ghost use Rattle.area.specs.Queue.{endsOf, past, slot, entryAt, added, removed, setEnds, queued, scheduled, oldest, dequeued};
+ghost use Rattle.area.specs.Layout.{payloadsStart, waiterRange, mostRoom, LongEnough};
+ghost use Rattle.area.specs.Queue.{endsOf, past, slot, entryAt, entryOf, added, removed, setEnds, queued, scheduled, requested, oldest, dequeued};
 
 // The ends of a queue: where its ring begins, how many entries the ring has room for, where the oldest is, and how many wait.
 pub struct Ends {
@@ -35,7 +41,7 @@ fn past(first: usize, k: usize, room: usize) -> usize
 }
 
 impl Ends {
-    // The queue with one frame more at its end.
+    // The queue with one more at its end.
     pub fn add(self) -> Ends
         requires { ⌜ self .waiting < 65536 ⌝ }
         ensures { λ r. ⌜ r ≡ added self ⌝ }
@@ -48,7 +54,7 @@ impl Ends {
         }
     }
 
-    // The queue without its oldest frame.
+    // The queue without its oldest.
     pub fn take(self) -> Ends
         requires { ⌜ (0 < self .waiting) × (self .first < 65536) ⌝ }
         ensures { λ r. ⌜ r ≡ removed self ⌝ }
@@ -99,14 +105,14 @@ fn slot_of(e: Ends, i: usize) -> usize
     ENTRIES_START + 2 * at_most(ENTRY_COUNT - 1, e.start + i)
 }
 
-// Tx frame `t` joins node `n`'s queue at the end.
-fn enqueue(area: &mut [u8], n: usize, t: TxNumber)
+// What has this number joins node `n`'s queue at the end.
+fn enqueue(area: &mut [u8], n: usize, number: usize)
     requires { ⌜ (n < 16) × LongEnough (now area) ⌝ }
-    ensures { λ r. ⌜ now (area .exit) ≡ queued (now (area .entry)) n (t .0) ⌝ }
+    ensures { λ r. ⌜ now (area .exit) ≡ queued (now (area .entry)) n number ⌝ }
 {
     let e = ends_at(area, n);
     let at = slot_of(e, past(e.first, e.waiting, e.room));
-    base::put_low(area, at, t.0);
+    base::put_low(area, at, number);
     put_ends(area, n, e.add());
 }
 
@@ -118,26 +124,50 @@ pub fn schedule(area: &mut [u8], t: TxNumber)
     if area[WAITS_START + t.0] == 0 {
         let n = tx_node(area, t);
         let reload = area[TX_RELOADS_START + t.0];
-        enqueue(area, n, t);
+        enqueue(area, n, t.0);
         area[WAITS_START + t.0] = 1;
         area[TX_TIMERS_START + t.0] = reload;
     }
 }
 
-// The oldest frame that waits in a queue with these ends.
-pub fn oldest_of(area: &[u8], e: Ends) -> TxNumber
-    requires { ⌜ (e .first < 65536) × (e .start < 65536) × LongEnough (now area) ⌝ }
-    ensures { λ t. ⌜ (t .0 ≡ entryAt (now (area .entry)) e (e .first)) × (t .0 < 256) ⌝ }
+// The request for Rx frame `r` joins its node's queue, unless it waits already.
+pub fn request(area: &mut [u8], r: RxNumber)
+    requires { ⌜ (r .0 < 256) × LongEnough (now area) ⌝ }
+    ensures { λ x. ⌜ now (area .exit) ≡ requested (now (area .entry)) (r .0) ⌝ }
 {
-    TxNumber(base::low_at(area, slot_of(e, e.first)) % 256)
+    let number = REQUESTS_START + r.0;
+    if area[WAITS_START + number] == 0 {
+        let at = rx_record_place(area, r);
+        let n = rx_node(area, at);
+        enqueue(area, n, number);
+        area[WAITS_START + number] = 1;
+    }
 }
 
-// The oldest frame, `t`, leaves node `n`'s queue, whose ends are `e`, and waits no more.
-pub fn dequeue(area: &mut [u8], n: usize, e: Ends, t: TxNumber)
+// The number of what has waited longest in a queue with these ends.
+pub fn oldest_of(area: &[u8], e: Ends) -> usize
+    requires { ⌜ (e .first < 65536) × (e .start < 65536) × LongEnough (now area) ⌝ }
+    ensures { λ k. ⌜ (k ≡ entryAt (now (area .entry)) e (e .first)) × (k < waiterRange) ⌝ }
+{
+    base::low_at(area, slot_of(e, e.first)) % WAITER_RANGE
+}
+
+// What has this number.
+pub fn entry_of(number: usize) -> Entry
+    ensures { λ e. ⌜ e ≡ entryOf number ⌝ }
+{
+    if number < REQUESTS_START {
+        return Entry::Frame(TxNumber(number));
+    }
+    Entry::Request(RxNumber(number - REQUESTS_START))
+}
+
+// The oldest leaves node `n`'s queue, whose ends are `e`, and waits no more. Its number is `k`.
+pub fn dequeue(area: &mut [u8], n: usize, e: Ends, k: usize)
     requires { ⌜ (n < 16) × LongEnough (now area) ×
-        (e ≡ endsOf (now area) n) × (t .0 ≡ oldest (now area) n) × (t .0 < 256) × (0 < e .waiting) × (e .first < 65536) ⌝ }
+        (e ≡ endsOf (now area) n) × (k ≡ oldest (now area) n) × (k < waiterRange) × (0 < e .waiting) × (e .first < 65536) ⌝ }
     ensures { λ r. ⌜ now (area .exit) ≡ dequeued (now (area .entry)) n ⌝ }
 {
     put_ends(area, n, e.take());
-    area[WAITS_START + t.0] = 0;
+    area[WAITS_START + k] = 0;
 }

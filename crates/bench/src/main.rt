@@ -8,10 +8,14 @@ use events::front_of;
 use events::payload_at;
 use lines::bad_line;
 use lines::plan_line;
+use lines::response_line;
 use lines::rx_line;
+use lines::silence_line;
 use lines::take_line;
 use lines::tick_line;
 use opening::open::open;
+use polling::respond::respond;
+use polling::silence::no_response;
 use reception::receive::receive;
 use taking::payload;
 use taking::take;
@@ -22,11 +26,13 @@ ghost use Prim.Native.Nat.{_+_, _%_, _≤_, _<_};
 ghost use lib.ListN.{length, take, replicate};
 ghost use Rattle.area.specs.Layout.{areaLength};
 ghost use Rattle.reception.specs.Reception.{receivedArea};
+ghost use Rattle.polling.specs.Polling.{respondedArea, silentArea};
 ghost use Rattle.ticking.specs.Tick.{tickAnswer, tickedArea};
 ghost use Rattle.taking.specs.Taken.{takenArea};
 ghost use Rattle.events.specs.Events.{payloadAt};
 ghost use Rattle.text.specs.Text.{LineIs};
-ghost use Rattle.output.specs.Output.{receivedText, fresh, tickedText, takenText, lineAt, areaAt, nextAt, textFrom, openOf, planText, benchOutput};
+ghost use Rattle.output.specs.Output.{receivedText, respondedText, silentText, fresh, tickedText, takenText};
+ghost use Rattle.output.specs.Output.{lineAt, areaAt, nextAt, textFrom, openOf, planText, benchOutput};
 
 // What was done: how much text stands at the buffer's start, and where the next event begins. After a bad one that is the input's end.
 struct Step {
@@ -41,7 +47,7 @@ struct Begun {
     rx: usize,
 }
 
-// A reception, a tick, a take: each writes its line at the start of the buffer, and answers how long the line is.
+// A reception, a response on LIN, "no response", a tick, a take: each writes its line at the start of the buffer, and answers how long the line is.
 fn received(
     input: &[u8],
     at: usize,
@@ -59,6 +65,35 @@ fn received(
     let n = payload_at(input, at, &mut data);
     let answer = receive(area, node, (id % 65536) as u32, &data[..n]);
     rx_line(answer, line)
+}
+
+fn responded(
+    input: &[u8],
+    at: usize,
+    node: usize,
+    id: usize,
+    sum: u8,
+    area: &mut [u8],
+    line: &mut [u8],
+) -> usize
+    requires { ⌜ (at + 13 ≤ length (now input)) × (2048 ≤ length (now line)) ⌝ }
+    ensures text { λ r. ⌜ LineIs (respondedText (now (area .entry)) node id (payloadAt (now (input .entry)) at) sum)
+        (now (line .entry)) (now (line .exit)) r ⌝ }
+    ensures bytes { λ r. ⌜ now (area .exit) ≡ respondedArea (now (area .entry)) node (id % 65536) (payloadAt (now (input .entry)) at) sum ⌝ }
+{
+    let mut bytes = [0u8; 9];
+    let n = payload_at(input, at, &mut bytes);
+    let answer = respond(area, node, (id % 65536) as u32, &bytes[..n], sum);
+    response_line(answer, line)
+}
+
+fn silent(node: usize, id: usize, area: &mut [u8], line: &mut [u8]) -> usize
+    requires { ⌜ 2048 ≤ length (now line) ⌝ }
+    ensures text { λ r. ⌜ LineIs (silentText (now (area .entry)) node id) (now (line .entry)) (now (line .exit)) r ⌝ }
+    ensures bytes { λ r. ⌜ now (area .exit) ≡ silentArea (now (area .entry)) node (id % 65536) ⌝ }
+{
+    let answer = no_response(area, node, (id % 65536) as u32);
+    silence_line(answer, line)
 }
 
 fn ticked(area: &mut [u8], rx: usize, line: &mut [u8]) -> usize
@@ -103,6 +138,19 @@ fn event(input: &[u8], at: usize, area: &mut [u8], rx: usize, line: &mut [u8]) -
         Event::Take { node } => Step {
             size: took(area, node, line),
             next: at + 2,
+        },
+        Event::Response {
+            node,
+            id,
+            length: _,
+            sum,
+        } => Step {
+            size: responded(input, at, node, id, sum, area, line),
+            next: at + 14,
+        },
+        Event::NoResponse { node, id } => Step {
+            size: silent(node, id, area, line),
+            next: at + 4,
         },
         Event::Bad => Step {
             size: bad_line(line),

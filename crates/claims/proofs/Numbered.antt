@@ -1,4 +1,4 @@
--- The Tx frames and the rows stand at the places that the records of their kind before them count to.
+-- The types of the nodes, the Tx frames and the rows stand at the places that the records of their kind before them count to.
 use mathlib.Core.Path.{_≡_, refl, sym, ap, _∙_}
 use mathlib.Core.Logic.{_≢_}
 use mathlib.Core.List.{List, [], _∷_, _++_}
@@ -8,16 +8,18 @@ use native.Mathlib.Omega.{arith}
 use native.Mathlib.Decide.{ℕ-discrete}
 use lib.ListN.{length, getD}
 use Rattle.base.specs.Pick.{pick}
+use Rattle.records.specs.declared.record.NodeType.{NodeType}
 use Rattle.records.specs.declared.record.TxFrame.{TxFrame}
 use Rattle.records.specs.declared.record.RxFrame.{RxFrame}
 use Rattle.records.specs.declared.record.Record.{Record}
 use Rattle.records.specs.declared.record.Record.the-variants.{Head, Node, Tx, Rx, Signal, Destination, Broken}
 use Rattle.records.specs.Kinds.{stageOf}
-use Rattle.plan.specs.Rows.{Row, rowOf, rowsFrom, txFrames, nodesIn, orderIn}
+use Rattle.records.specs.Nodes.{typeOf}
+use Rattle.plan.specs.Rows.{Row, rowOf, rowsFrom, txFrames, nodesIn, typesIn, orderIn}
 use Rattle.facts.specs.Good.{Each, countOf}
-use Rattle.records.proofs.Variants.{by-tx, by-rx}
+use Rattle.records.proofs.Variants.{by-node, by-tx, by-rx}
 use Rattle.claims.specs.Claims.{Whole}
-use Rattle.claims.specs.Statements.{FramesBySplits, NodesCounted, HeadOrder, OneFrames}
+use Rattle.claims.specs.Statements.{TypesBySplits, FramesBySplits, NodesCounted, HeadOrder, OneTypes, OneFrames}
 use Rattle.claims.proofs.OfKind.{no-stage, named}
 use Rattle.claims.proofs.Splits.{instead, each-append, each-here, same-lists, count-hit, count-miss, split-at}
 
@@ -51,6 +53,47 @@ module _ {A : Type 0} (kind : ℕ) (F : ℕ → List Record → List A) (c : Col
           rw (count-hit kind r front e, c .hit n r (front ++ rest) (w .0) e .1, ← s) (h (suc n))
       go (no x) h = rw (count-miss kind r front x, c .skip n r (front ++ rest) (w .0) x) (h n)
 
+-- and no second list has, where each such record says what its element is
+record Elements {A B : Type 0} (kind : ℕ) (make : B → Record) (value : B → A) (rs : List Record) (xs : List A) : Type 0 where
+  many : length xs ≡ countOf kind rs
+  each : (front rest : List Record) (b : B) → rs ≡ front ++ make b ∷ rest → (d : A) → getD xs (countOf kind front) d ≡ value b
+
+one-list :
+    {A B : Type 0} (kind : ℕ) (make : B → Record) (value : B → A) → ((r : Record) → Whole r → stageOf r ≡ kind → (b : B) × (r ≡ make b))
+    → (rs : List Record) → Each Whole rs → (xs ys : List A) → Elements kind make value rs xs → Elements kind make value rs ys → xs ≡ ys
+one-list kind make value is rs w xs ys a b =
+    same-lists xs ys (a .many ∙ sym (b .many))
+    (λ d i l.
+    let at = split-at kind i rs (omega (arith, a .many)) in
+    let x = is (at .here) (each-here Whole (at .front) (at .here) (at .rest) (rw (at .split) at w)) (at .is) in
+    let e : rs ≡ at .front ++ make (x .0) ∷ at .rest = at .split ∙ instead (at .front) (at .rest) (x .1) in
+    rw (← (at .many)) (a .each (at .front) (at .rest) (x .0) e d ∙ sym (b .each (at .front) (at .rest) (x .0) e d)))
+
+-- ---- types
+
+types-collect : Collects {A = NodeType} 2 (λ n rs. typesIn rs)
+unfolding typesIn stageOf
+types-collect = record { empty = λ n. refl; skip = λ n. skip; hit = λ n. hit }
+  where
+    skip : (r : Record) (rs : List Record) → Whole r → stageOf r ≢ 2 → typesIn (r ∷ rs) ≡ typesIn rs
+    skip r rs w d = by-node (λ r. stageOf r ≢ 2 → typesIn (r ∷ rs) ≡ typesIn rs) (λ body d. absurd (d refl)) (λ r no d. no .by _ _) r d
+
+    hit : (r : Record) (rs : List Record) → Whole r → stageOf r ≡ 2 → (x : NodeType) × (typesIn (r ∷ rs) ≡ x ∷ typesIn rs)
+    hit r rs w e = let x = named r w .node e in (typeOf (x .0 .of), ap (λ (y : Record). typesIn (y ∷ rs)) (x .1))
+
+pub types-by-splits : TypesBySplits
+unfolding typesIn
+types-by-splits rs w =
+    record {
+      many = collects-many 2 _ types-collect 0 rs w;
+      each = λ front rest body e d. rw e (collects-at 2 _ types-collect 0 front (Node body ∷ rest) d (each-append Whole front _ (rw e at w) .0));
+    }
+
+pub one-types : OneTypes
+one-types rs w xs ys a b =
+    one-list 2 Node (λ body. typeOf (body .of)) (λ r whole. named r whole .node) rs w xs ys (record { many = a .many; each = a .each })
+    (record { many = b .many; each = b .each })
+
 -- ---- Tx frames
 
 tx-collects : Collects {A = TxFrame} 3 (λ n rs. txFrames rs)
@@ -73,12 +116,7 @@ frames-by-splits rs w =
 
 pub one-frames : OneFrames
 one-frames rs w xs ys a b =
-    same-lists xs ys (a .many ∙ sym (b .many))
-    (λ d i l.
-    let at = split-at 3 i rs (omega (arith, a .many)) in
-    let x = named (at .here) (each-here Whole (at .front) (at .here) (at .rest) (rw (at .split) at w)) .tx (at .is) in
-    let e : rs ≡ at .front ++ Tx (x .0) ∷ at .rest = at .split ∙ instead (at .front) (at .rest) (x .1) in
-    rw (← (at .many)) (a .each (at .front) (at .rest) (x .0) e d ∙ sym (b .each (at .front) (at .rest) (x .0) e d)))
+    one-list 3 Tx (λ x. x) (λ r whole. named r whole .tx) rs w xs ys (record { many = a .many; each = a .each }) (record { many = b .many; each = b .each })
 
 -- ---- rows
 

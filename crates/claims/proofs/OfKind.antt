@@ -5,6 +5,7 @@ use mathlib.Core.Bool.{true≢false}
 use mathlib.Core.List.{List, [], _∷_}
 use Prim.Native.Nat.{_≤_, _<_}
 use native.Mathlib.Omega.{arith}
+use Rattle.records.specs.declared.record.NodeBody.{NodeBody}
 use Rattle.records.specs.declared.record.SignalBody.{SignalBody}
 use Rattle.records.specs.declared.record.DestinationBody.{DestinationBody}
 use Rattle.records.specs.declared.record.TxFrame.{TxFrame}
@@ -23,14 +24,16 @@ use Rattle.claims.specs.Owners.{destination}
 -- ---- the stage of a whole record says which it is
 
 pub record Named (r : Record) : Type 0 where
+  pub node : stageOf r ≡ 2 → (body : NodeBody) × (r ≡ Node body)
   pub tx : stageOf r ≡ 3 → (x : TxFrame) × (r ≡ Tx x)
   pub rx : stageOf r ≡ 4 → (x : RxFrame) × (r ≡ Rx x)
   pub signal : stageOf r ≡ 5 → IsSignal r
   pub destination : stageOf r ≡ 6 → IsDestination r
 
-none-of : (r : Record) → stageOf r < 3 → Named r
+none-of : (r : Record) → stageOf r < 2 → Named r
 none-of r l =
     record {
+      node = λ e. absurd (omega arith);
       tx = λ e. absurd (omega arith);
       rx = λ e. absurd (omega arith);
       signal = λ e. absurd (omega arith);
@@ -46,15 +49,46 @@ no-stage (Cut kind) w = absurd (w kind refl)
 pub named : (r : Record) → Whole r → Named r
 unfolding stageOf
 named (Head order) w = none-of (Head order) (omega arith)
-named (Node body) w = none-of (Node body) (omega arith)
+named (Node body) w =
+    record {
+      node = λ e. (body, refl);
+      tx = λ e. absurd (omega arith);
+      rx = λ e. absurd (omega arith);
+      signal = λ e. absurd (omega arith);
+      destination = λ e. absurd (omega arith);
+    }
 named (Tx x) w =
-    record { tx = λ e. (x, refl); rx = λ e. absurd (omega arith); signal = λ e. absurd (omega arith); destination = λ e. absurd (omega arith) }
+    record {
+      node = λ e. absurd (omega arith);
+      tx = λ e. (x, refl);
+      rx = λ e. absurd (omega arith);
+      signal = λ e. absurd (omega arith);
+      destination = λ e. absurd (omega arith);
+    }
 named (Rx x) w =
-    record { tx = λ e. absurd (omega arith); rx = λ e. (x, refl); signal = λ e. absurd (omega arith); destination = λ e. absurd (omega arith) }
+    record {
+      node = λ e. absurd (omega arith);
+      tx = λ e. absurd (omega arith);
+      rx = λ e. (x, refl);
+      signal = λ e. absurd (omega arith);
+      destination = λ e. absurd (omega arith);
+    }
 named (Signal body) w =
-    record { tx = λ e. absurd (omega arith); rx = λ e. absurd (omega arith); signal = λ e. (body, refl); destination = λ e. absurd (omega arith) }
+    record {
+      node = λ e. absurd (omega arith);
+      tx = λ e. absurd (omega arith);
+      rx = λ e. absurd (omega arith);
+      signal = λ e. (body, refl);
+      destination = λ e. absurd (omega arith);
+    }
 named (Destination body) w =
-    record { tx = λ e. absurd (omega arith); rx = λ e. absurd (omega arith); signal = λ e. absurd (omega arith); destination = λ e. (body, refl) }
+    record {
+      node = λ e. absurd (omega arith);
+      tx = λ e. absurd (omega arith);
+      rx = λ e. absurd (omega arith);
+      signal = λ e. absurd (omega arith);
+      destination = λ e. (body, refl);
+    }
 named (Broken fault) w = none-of (Broken fault) (omega (arith, no-stage fault w))
 
 -- ---- a signal or a destination

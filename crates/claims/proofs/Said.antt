@@ -2,12 +2,12 @@
 use mathlib.Core.List.{List}
 use Prim.Native.Nat.{ℕ}
 use Rattle.records.specs.Records.{records}
-use Rattle.plan.specs.Rows.{rowsOf, claimsOf, txOf}
+use Rattle.plan.specs.Rows.{rowsOf, claimsOf, txOf, typesIn}
 use Rattle.facts.specs.Good.{GoodPlan}
 use Rattle.facts.proofs.GoodFacts.{good-facts}
 use Rattle.claims.specs.Claims.{Lawful}
 use Rattle.claims.specs.Statements.{Said, GoodSaid}
-use Rattle.claims.proofs.Numbered.{frames-by-splits, one-frames, nodes-counted, head-order}
+use Rattle.claims.proofs.Numbered.{types-by-splits, one-types, frames-by-splits, one-frames, nodes-counted, head-order}
 use Rattle.claims.proofs.Claims.{claims-by-splits}
 use Rattle.claims.proofs.Rows.{one-rows}
 use Rattle.claims.proofs.Lawful.{lawful, head-first}
@@ -17,11 +17,13 @@ said : (plan : List ℕ) → GoodPlan plan → Lawful (records plan) → Said pl
 unfolding txOf rowsOf claimsOf
 said plan g law =
     let rs = records plan in
+    let types = types-by-splits rs (law .whole) in
     let frames = frames-by-splits rs (law .whole) in
     let rows = claims-by-splits rs (law .whole) in
     let (order, rest, e) = head-first rs (g .nonempty) (g .place) in
     record {
       lawful = law;
+      types = record { has = types; one = λ xs h. one-types rs (law .whole) xs (typesIn rs) h types };
       frames = record { has = frames; one = λ xs h. one-frames rs (law .whole) xs (txOf plan) h frames };
       rows = record { has = rows; one = λ xs h. one-rows rs law xs (rowsOf plan) h rows };
       nodes = nodes-counted rs (law .whole);

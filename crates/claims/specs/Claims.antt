@@ -1,17 +1,20 @@
--- The frames, the rows and the claims of a plan in words of its records, split where one stands: a second text beside the recursion of `Rows`.
+-- The nodes, the frames, the rows and the claims of a plan in words of its records, split where one stands: a second text beside the recursion of `Rows`.
 use mathlib.Core.Path.{_≡_}
 use mathlib.Core.Logic.{_≢_, _⊎_}
 use mathlib.Core.List.{List, _∷_, _++_}
 use Prim.Native.Nat.{ℕ, _+_, _<_}
 use lib.ListN.{length, getD}
+use Rattle.records.specs.declared.record.NodeType.{NodeType}
+use Rattle.records.specs.declared.record.NodeBody.{NodeBody}
 use Rattle.records.specs.declared.record.SignalBody.{SignalBody}
 use Rattle.records.specs.declared.record.DestinationBody.{DestinationBody}
 use Rattle.records.specs.declared.record.TxFrame.{TxFrame}
 use Rattle.records.specs.declared.record.RxFrame.{RxFrame}
 use Rattle.records.specs.declared.record.Record.{Record}
-use Rattle.records.specs.declared.record.Record.the-variants.{Tx, Rx, Signal, Destination, Broken}
+use Rattle.records.specs.declared.record.Record.the-variants.{Node, Tx, Rx, Signal, Destination, Broken}
 use Rattle.records.specs.declared.record.Fault.the-variants.{Cut}
-use Rattle.records.specs.Kinds.{txStage, rxStage, destinationStage}
+use Rattle.records.specs.Kinds.{nodeStage, txStage, rxStage, destinationStage}
+use Rattle.records.specs.Nodes.{typeOf}
 use Rattle.plan.specs.Rows.{copy, failure, Claim, Row}
 use Rattle.facts.specs.Good.{Each, countOf}
 
@@ -34,7 +37,13 @@ Own r = IsSignal r ⊎ IsDestination r
 abbrev pub Beyond : List Record → Type 0
 Beyond rest = (r : Record) (rs : List Record) → rest ≡ r ∷ rs → Own r → ⊥
 
--- ---- "Nodes, Tx and Rx frames are numbered from 0.": the number of a frame is how many of its kind stand before it
+-- ---- "Nodes, Tx and Rx frames are numbered from 0.": the number of a node or a frame is how many of its kind stand before it
+
+-- "type: 0 CAN"; "Node type 1 is a LIN node" (document 02, Ticket 2)
+pub record TypesOf (rs : List Record) (types : List NodeType) : Type 0 where
+  pub many : length types ≡ countOf nodeStage rs
+  pub each : (front rest : List Record) (body : NodeBody) → rs ≡ front ++ Node body ∷ rest → (d : NodeType)
+      → getD types (countOf nodeStage front) d ≡ typeOf (body .of)
 
 pub record FramesOf (rs : List Record) (frames : List TxFrame) : Type 0 where
   pub many : length frames ≡ countOf txStage rs

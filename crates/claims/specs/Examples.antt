@@ -2,12 +2,13 @@
 use mathlib.Core.Path.{_≡_}
 use mathlib.Core.List.{List, [], _∷_, _++_}
 use Prim.Native.Nat.{ℕ}
+use Rattle.records.specs.declared.record.NodeType.the-variants.{Can, Lin}
 use Rattle.records.specs.Records.{records}
 use Rattle.plan.specs.declared.verdict.Verdict.the-variants.{Good}
 use Rattle.plan.specs.Check.{checkPlan}
-use Rattle.plan.specs.Rows.{copy, failure, Claim, Row, rowsOf, claimsOf, txOf, nodesIn, orderIn}
+use Rattle.plan.specs.Rows.{copy, failure, Claim, Row, rowsOf, claimsOf, txOf, nodesIn, typesIn, orderIn}
 use Rattle.facts.specs.Good.{sizesOf}
-use Rattle.facts.specs.PlanCases.{node, tx, rx, signal, destination, listing}
+use Rattle.facts.specs.PlanCases.{node, lin, tx, rx, signal, destination, listing}
 use Rattle.claims.specs.Statements.{Said}
 
 abbrev pub copied : ℕ → ℕ → ℕ → ℕ → ℕ → Claim
@@ -16,11 +17,11 @@ copied n p s t q = record { rx = n; tx = t; at = q; from = copy p s }
 abbrev pub failed : ℕ → ℕ → ℕ → Claim
 failed n t q = record { rx = n; tx = t; at = q; from = failure }
 
--- Order 1, two nodes, three Tx frames of 8, 7 and 6 bytes; three Rx frames, of which the first and the last have an indicator, and the second has a
+-- Order 1, a CAN and a LIN node, three Tx frames of 8, 7 and 6 bytes; three Rx frames, of which the first and the last have an indicator, and the second has a
 -- signal with no destination. All positions and all signal sizes differ, and the first frame's destinations begin and end in different Tx frames.
 abbrev pub several : List ℕ
 several =
-    0x01 ∷ 0x01 ∷ [] ++ node ++ node ++ tx 8 ++ tx 7 ++ tx 6
+    0x01 ∷ 0x01 ∷ [] ++ node ++ lin ++ tx 8 ++ tx 7 ++ tx 6
     ++ rx 0 0x00 0x20 8 1 45
     ++ signal 1 3 ++ destination 2 5 ++ destination 0 9
     ++ signal 20 7 ++ destination 1 11 ++ destination 0 14
@@ -41,6 +42,7 @@ pub record Written : Type 0 where
   pub good : checkPlan several ≡ Good 2 3 3
   pub order : orderIn (records several) ≡ 1
   pub nodes : nodesIn (records several) ≡ 2
+  pub types : typesIn (records several) ≡ Can ∷ Lin ∷ []
   pub frames : sizesOf (txOf several) ≡ 8 ∷ 7 ∷ 6 ∷ []
   pub rows : numbered (rowsOf several) ≡ (0, 8) ∷ (1, 7) ∷ (2, 6) ∷ []
   pub claims :

@@ -1,8 +1,9 @@
--- What is proved of the frames, the rows, the claims and the owners.
+-- What is proved of the nodes, the frames, the rows, the claims and the owners.
 use mathlib.Core.Path.{_≡_}
 use mathlib.Core.Logic.{_↔_}
 use mathlib.Core.List.{List, [], _∷_, _++_}
 use Prim.Native.Nat.{ℕ}
+use Rattle.records.specs.declared.record.NodeType.{NodeType}
 use Rattle.records.specs.declared.record.TxFrame.{TxFrame}
 use Rattle.records.specs.declared.record.RxFrame.{RxFrame}
 use Rattle.records.specs.declared.record.Record.{Record}
@@ -11,12 +12,15 @@ use Rattle.records.specs.Records.{records}
 use Rattle.records.specs.Kinds.{nodeStage}
 use Rattle.plan.specs.declared.verdict.Verdict.the-variants.{Good}
 use Rattle.plan.specs.Check.{checkPlan}
-use Rattle.plan.specs.Rows.{Claim, Row, rowsFrom, rowsOf, allClaims, claimsOf, txFrames, txOf, nodesIn, orderIn}
+use Rattle.plan.specs.Rows.{Claim, Row, rowsFrom, rowsOf, allClaims, claimsOf, txFrames, txOf, nodesIn, typesIn, orderIn}
 use Rattle.facts.specs.Good.{Each, countOf, Holds}
-use Rattle.claims.specs.Claims.{Whole, Own, FramesOf, ClaimsOf, RowsOf, Regular, Lawful}
+use Rattle.claims.specs.Claims.{Whole, Own, TypesOf, FramesOf, ClaimsOf, RowsOf, Regular, Lawful}
 use Rattle.claims.specs.Owners.{Has, Bits, Owner}
 
 -- ---- of any records that are whole
+
+abbrev pub TypesBySplits : Type 0
+TypesBySplits = (rs : List Record) → Each Whole rs → TypesOf rs (typesIn rs)
 
 abbrev pub FramesBySplits : Type 0
 FramesBySplits = (rs : List Record) → Each Whole rs → FramesOf rs (txFrames rs)
@@ -31,6 +35,9 @@ abbrev pub HeadOrder : Type 0
 HeadOrder = (rs rest : List Record) (order : ℕ) → rs ≡ Head order ∷ rest → orderIn rs ≡ order
 
 -- ---- no second list fits
+
+abbrev pub OneTypes : Type 0
+OneTypes = (rs : List Record) → Each Whole rs → (xs ys : List NodeType) → TypesOf rs xs → TypesOf rs ys → xs ≡ ys
 
 abbrev pub OneFrames : Type 0
 OneFrames = (rs : List Record) → Each Whole rs → (xs ys : List TxFrame) → FramesOf rs xs → FramesOf rs ys → xs ≡ ys
@@ -68,6 +75,7 @@ pub record Only {A : Type 0} (P : A → Type 0) (x : A) : Type 0 where
 
 pub record Said (plan : List ℕ) : Type 0 where
   pub lawful : Lawful (records plan)
+  pub types : Only (TypesOf (records plan)) (typesIn (records plan))
   pub frames : Only (FramesOf (records plan)) (txOf plan)
   pub rows : Only (RowsOf (records plan)) (rowsOf plan)
   pub nodes : nodesIn (records plan) ≡ countOf nodeStage (records plan)

@@ -2,11 +2,14 @@
 use Rattle.model.proofs.Meets.{model-meets}
 use Rattle.model.proofs.Decide.{rules-decide}
 use Rattle.model.proofs.RxExpiry.{rx-expiry}
+use Rattle.model.proofs.AskExpiry.{ask-expiry, ask-silence}
 use Rattle.model.proofs.TxExpiry.{tx-expiry}
-use Rattle.model.proofs.Listing.{listing-answered, gaps-answered}
+use Rattle.model.proofs.Listing.{listing-answered, gaps-answered, polling-answered}
 use Rattle.history.proofs.LongTimeouts.{long-timeouts}
+use Rattle.history.proofs.LongSilences.{long-silences}
 use Rattle.history.proofs.Strangers.{strangers-belong}
 use Rattle.refines.proofs.All.{as-the-model}
+use Rattle.refines.proofs.Once.{waits-once}
 use Rattle.refines.proofs.Listing.{listing-on-bytes}
 use Rattle.demands.proofs.Texts.{texts}
 use Rattle.demands.specs.Demand2.{Demand2}
@@ -20,8 +23,13 @@ demand-2 =
       as-the-model = as-the-model;
       rx-expiry = rx-expiry;
       tx-expiry = tx-expiry;
+      ask-expiry = ask-expiry;
+      ask-silence = ask-silence;
+      once = waits-once;
       long-timeouts = long-timeouts;
       gaps = gaps-answered;
+      long-silences = long-silences;
+      polling = polling-answered;
       strangers = strangers-belong;
       listing = listing-answered;
       on-bytes = listing-on-bytes;

@@ -7,6 +7,9 @@ use Rattle.encoding.proofs.KindCases.{kinds-hold}
 use Rattle.claims.proofs.Said.{good-said}
 use Rattle.claims.proofs.Examples.{written}
 use Rattle.refusals.proofs.Exactly.{refused-exactly, good-exactly, one-refusal}
+use Rattle.lin.proofs.Identifiers.{parity-bits, known-identifiers}
+use Rattle.lin.proofs.Sums.{known-checksum, folded-sum}
+use Rattle.lin.proofs.Worth.{appended, same-checksum, changed-byte-found}
 use Rattle.restated.proofs.Bits.{bits-at-ends, bits-by-numbers}
 use Rattle.restated.proofs.Copies.{copies-by-numbers}
 use Rattle.restated.proofs.Clock.{counter-by-number, handled-by-number, handling}
@@ -35,4 +38,11 @@ texts =
       handling = handling;
       owners = owners-by-digits;
       search = search-by-looks;
+      parity = parity-bits;
+      identifiers = known-identifiers;
+      checksum = known-checksum;
+      folded = folded-sum;
+      appended = appended;
+      same-checksum = same-checksum;
+      changed-byte = changed-byte-found;
     }

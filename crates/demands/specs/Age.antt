@@ -3,7 +3,7 @@
 -- fewer than r times p unrefused ticks have passed since the last acceptance, and the frame's bits from that source are those of that acceptance. Prove
 -- this over any calls." The statements are in the crate age.
 use Rattle.age.specs.FailureBits.{FailureBits}
-use Rattle.age.specs.AgeOfAFix.{AgeOfAFix, SourcesTogether}
+use Rattle.age.specs.AgeOfAFix.{AgeOfAFix, BitsOfAnySource, SourcesTogether}
 use Rattle.age.specs.BestBound.{BestBound, NoSmallerBound, NoBound}
 use Rattle.age.specs.Choosing.{NotEarly, ZeroSaysAccepted}
 
@@ -11,6 +11,8 @@ pub record Age : Type 0 where
   pub of-a-fix : AgeOfAFix
   -- every source with its indicator enabled has such a bit
   pub failure-bits : FailureBits
+  -- of a source of any kind, on LIN too (Ticket 2), the bits are those of its last acceptance
+  pub bits : BitsOfAnySource
   -- each source of a frame has its own bound
   pub together : SourcesTogether
   -- no smaller bound holds, and where the reload value is 0 or the indicator is off none does

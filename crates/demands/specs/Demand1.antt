@@ -1,7 +1,7 @@
 -- Demand 1: "Every plan, memory area, frame and order of calls is met without an undefined act, and every call ends. Bad input is refused by the
 -- numbers in document 01, for the reasons there and no others. A refusal changes no byte of the area or the caller's report."
 -- That each call is safe and ends is the toolchain's verdict on each function, for all inputs: no call has a `requires`. The rest is here, of any
--- area whatever; refusals 12 to 15 are rules of demand 2.
+-- area whatever; refusals 12 to 16 are rules of demand 2.
 use mathlib.Core.Path.{_≡_}
 use mathlib.Core.Logic.{_↔_, _⊎_}
 use mathlib.Core.List.{List, []}
@@ -18,13 +18,17 @@ use Rattle.answers.specs.declared.Refusal.{Refusal}
 use Rattle.answers.specs.declared.Refusal.the-variants.{Plan as BadPlan, ShortArea, NotOpen}
 use Rattle.answers.specs.declared.Opened.the-variants as ofOpening
 use Rattle.answers.specs.declared.Received.the-variants as ofReception
+use Rattle.answers.specs.declared.Responded.the-variants as ofResponse
+use Rattle.answers.specs.declared.Silence.the-variants as ofSilence
 use Rattle.answers.specs.declared.Ticked.the-variants as ofTick
+use Rattle.answers.specs.declared.TakenRequest.{TakenRequest}
 use Rattle.answers.specs.declared.Taken.the-variants as ofTake
 use Rattle.answers.specs.declared.Fullness.the-variants as ofFullness
 use Rattle.reception.specs.Reception.{receivedAnswer}
+use Rattle.polling.specs.Polling.{respondedAnswer, silentAnswer}
 use Rattle.ticking.specs.Tick.{tickAnswer, tickedReport}
 use Rattle.taking.specs.Taken.{takenAnswer, takenPayload, fullnessAnswer}
-use Rattle.model.specs.Calls.{reception, tick, take, Step, opening}
+use Rattle.model.specs.Calls.{reception, response, noResponse, tick, take, Step, opening}
 use Rattle.history.specs.Calls.{openAnswer, areaAfter, stepped}
 use Rattle.refines.specs.Shows.{Marked}
 use Rattle.demands.specs.Numbers.{Numbers}
@@ -51,6 +55,8 @@ pub record OpeningAnswers (plan a : List ℕ) : Type 0 where
 
 pub record NotOpened (a : List ℕ) : Type 0 where
   pub reception : (n id : ℕ) (payload : List ℕ) → (receivedAnswer a n id payload ≡ ofReception.Refused NotOpen) ↔ (Marked a → ⊥)
+  pub response : (n id : ℕ) (payload : List ℕ) (sum : ℕ) → (respondedAnswer a n id payload sum ≡ ofResponse.Refused NotOpen) ↔ (Marked a → ⊥)
+  pub noResponse : (n id : ℕ) → (silentAnswer a n id ≡ ofSilence.Refused NotOpen) ↔ (Marked a → ⊥)
   pub tick : (report : List ℕ) → (tickAnswer a report ≡ ofTick.Refused NotOpen) ↔ (Marked a → ⊥)
   pub take : (n : ℕ) → (takenAnswer a n ≡ ofTake.Refused NotOpen) ↔ (Marked a → ⊥)
   pub fullness : (t : ℕ) → (fullnessAnswer a t ≡ ofFullness.Refused NotOpen) ↔ (Marked a → ⊥)
@@ -61,12 +67,20 @@ pub record RefusalsWriteNothing (a : List ℕ) : Type 0 where
   pub of-opening : (plan : List ℕ) (why : Refusal) (at : ℕ) → openAnswer plan a ≡ ofOpening.Refused why at → stepped a (opening plan) ≡ a
   pub of-reception : (n id : ℕ) (payload : List ℕ) (why : Refusal) → receivedAnswer a n id payload ≡ ofReception.Refused why
       → areaAfter a (reception n id payload) ≡ a
+  pub of-response : (n id : ℕ) (payload : List ℕ) (sum : ℕ) (why : Refusal) → respondedAnswer a n id payload sum ≡ ofResponse.Refused why
+      → areaAfter a (response n id payload sum) ≡ a
+  pub of-no-response : (n id : ℕ) (why : Refusal) → silentAnswer a n id ≡ ofSilence.Refused why → areaAfter a (noResponse n id) ≡ a
+  -- "A wrong one received is answer 3, after 2, and changes nothing." (document 02, Ticket 2)
+  pub of-wrong-sum : (n id : ℕ) (payload : List ℕ) (sum : ℕ) → respondedAnswer a n id payload sum ≡ ofResponse.WrongSum
+      → areaAfter a (response n id payload sum) ≡ a
   pub of-tick : (report : List ℕ) (why : Refusal) → tickAnswer a report ≡ ofTick.Refused why → areaAfter a (tick report) ≡ a
   pub of-report : (report : List ℕ) (why : Refusal) → tickAnswer a report ≡ ofTick.Refused why → tickedReport (tickAnswer a report) a report ≡ report
   pub of-take : (n : ℕ) (why : Refusal) → takenAnswer a n ≡ ofTake.Refused why → areaAfter a (take n) ≡ a
   -- "with "none" or a refusal, the empty part"
   pub of-payload : (n : ℕ) (why : Refusal) → takenAnswer a n ≡ ofTake.Refused why → takenPayload (areaAfter a (take n)) (takenAnswer a n) ≡ []
   pub of-none : (n : ℕ) → takenAnswer a n ≡ ofTake.Nothing → takenPayload (areaAfter a (take n)) (takenAnswer a n) ≡ []
+  -- "A take answers a request (.. the empty part ..)" (document 02, Ticket 2)
+  pub of-request : (n : ℕ) (x : TakenRequest) → takenAnswer a n ≡ ofTake.Request x → takenPayload (areaAfter a (take n)) (takenAnswer a n) ≡ []
 
 -- ---- "hex 47 57 at its start, which no later call alters"; "Bytes past the area's first 32,768 never change."
 

@@ -1,14 +1,15 @@
 -- Demand 2: "Lookup, signal copy, timers, failure bits, timeout reports, sending order and every count answered are exactly the rules of Freescale
 -- AN3333 as document 01 states them: each rule's case is acted on, and nothing else is." And, of document 02, Ticket 1: "The long counter must start
 -- again at every accepted reception, so that a long timeout means that many expiries in a row." Ticket 4: "A lookup that finds nothing should say how
--- many of that node's rows have a smaller ID. Answer 1 carries this number".
+-- many of that node's rows have a smaller ID. Answer 1 carries this number". Ticket 2: the pumps on LIN.
 use Rattle.model.specs.Rules.{ModelMeets, RulesDecide}
-use Rattle.model.specs.Timers.{RxExpiry, TxExpiry}
+use Rattle.model.specs.Timers.{RxExpiry, AskExpiry, AskSilence, TxExpiry}
 use Rattle.model.specs.Listing.{ListingAnswered}
 use Rattle.model.specs.ShortGaps.{GapsAnswered}
-use Rattle.history.specs.LongTimeouts.{LongTimeouts}
+use Rattle.model.specs.Polling.{PollingAnswered}
+use Rattle.history.specs.LongTimeouts.{LongTimeouts, LongSilences}
 use Rattle.history.specs.Strangers.{StrangersBelong}
-use Rattle.refines.specs.Shows.{AsTheModel}
+use Rattle.refines.specs.Shows.{AsTheModel, WaitsOnce}
 use Rattle.refines.specs.Listing.{ListingOnBytes}
 use Rattle.demands.specs.Texts.{Texts}
 
@@ -23,9 +24,16 @@ pub record Demand2 : Type 0 where
   -- "Thus a timer loaded with v above 0 expires at its v-th handling, unless loaded again first."
   pub rx-expiry : RxExpiry
   pub tx-expiry : TxExpiry
+  -- on LIN "expiry queues a request, once while it waits", and a report says nothing of it
+  pub ask-expiry : AskExpiry
+  pub ask-silence : AskSilence
+  pub once : WaitsOnce
   -- "a long timeout means that many expiries in a row": over any calls, from what the caller sees, and as a case
   pub long-timeouts : LongTimeouts
   pub gaps : GapsAnswered
+  -- and "no response", which "answers 1 or 2 as the report would"
+  pub long-silences : LongSilences
+  pub polling : PollingAnswered
   -- "its place in the plan sheet": over any calls, from what the caller sees, in the plan's terms
   pub strangers : StrangersBelong
   -- document 01's listing, of the model and of the bytes

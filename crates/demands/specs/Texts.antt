@@ -4,6 +4,7 @@ use Rattle.encoding.specs.KindCases.{KindsHold}
 use Rattle.claims.specs.Statements.{GoodSaid}
 use Rattle.claims.specs.Examples.{Written}
 use Rattle.refusals.specs.Statements.{RefusedExactly, GoodExactly, OneRefusal}
+use Rattle.lin.specs.Statements.{ParityBits, KnownIdentifiers, KnownChecksum, FoldedSum, Appended, SameChecksum, ChangedByteFound}
 use Rattle.restated.specs.Bits.{BitsAtEnds, BitsByNumbers}
 use Rattle.restated.specs.Copies.{CopiesByNumbers}
 use Rattle.restated.specs.Clock.{CounterByNumber, HandledByNumber, Handling}
@@ -33,3 +34,11 @@ pub record Texts : Type 0 where
   pub handling : Handling
   pub owners : OwnersByDigits
   pub search : SearchByLooks
+  -- the protected identifier and the checksum, by numbers, and what the checksum is worth
+  pub parity : ParityBits
+  pub identifiers : KnownIdentifiers
+  pub checksum : KnownChecksum
+  pub folded : FoldedSum
+  pub appended : Appended
+  pub same-checksum : SameChecksum
+  pub changed-byte : ChangedByteFound

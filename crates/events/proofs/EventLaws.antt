@@ -38,18 +38,19 @@ module _ (input : List ℕ) where
   front-plan l c s = (rw (le-ltb _ _ l, le-ltb _ _ c, le-ltb _ _ s), λ end e. let d : 2 + twoAt input 0 ≡ end = cc in omega arith)
 
 -- a byte that is no kind passes every choice by kind
-module _ (kind : ℕ) (n16 : kind ≡ 16 → ⊥) (n17 : kind ≡ 17 → ⊥) (n18 : kind ≡ 18 → ⊥) where
-  no-kind {ℓ} : {A : Type ℓ} (a b c z : A) → z ≡ pick (eqb kind 16) a (pick (eqb kind 17) b (pick (eqb kind 18) c z))
+module _ (kind : ℕ) (n16 : kind ≡ 16 → ⊥) (n17 : kind ≡ 17 → ⊥) (n18 : kind ≡ 18 → ⊥) (n20 : kind ≡ 20 → ⊥) (n21 : kind ≡ 21 → ⊥) where
+  no-kind {ℓ} : {A : Type ℓ} (a b c d e z : A)
+      → z ≡ pick (eqb kind 16) a (pick (eqb kind 17) b (pick (eqb kind 18) c (pick (eqb kind 20) d (pick (eqb kind 21) e z))))
   unfolding pick
-  no-kind a b c z = rw (ne-eqb _ _ n16, ne-eqb _ _ n17, ne-eqb _ _ n18)
+  no-kind a b c d e z = rw (ne-eqb _ _ n16, ne-eqb _ _ n17, ne-eqb _ _ n18, ne-eqb _ _ n20, ne-eqb _ _ n21)
 
   pub no-length : 0 ≡ eventLength kind
   unfolding eventLength
-  no-length = no-kind _ _ _ _
+  no-length = no-kind _ _ _ _ _ _
 
   pub no-event : (input : List ℕ) (at : ℕ) → Bad ≡ wholeEvent kind input at
   unfolding wholeEvent
-  no-event input at = no-kind _ _ _ _
+  no-event input at = no-kind _ _ _ _ _ _
 
 -- a whole event has the bytes that its kind says
 whole-size : (kind : ℕ) (input : List ℕ) (at : ℕ) → eventSize (wholeEvent kind input at) ≡ eventLength kind
@@ -58,7 +59,9 @@ whole-size kind input at =
     let P : Event → Type 0 = λ e. eventSize e ≡ eventLength kind in
     by-eqb P kind 16 _ _ (λ e. rw e) (λ n16.
     by-eqb P kind 17 _ _ (λ e. rw e) (λ n17.
-    by-eqb P kind 18 _ _ (λ e. rw e) (λ n18. no-length kind n16 n17 n18)))
+    by-eqb P kind 18 _ _ (λ e. rw e) (λ n18.
+    by-eqb P kind 20 _ _ (λ e. rw e) (λ n20.
+    by-eqb P kind 21 _ _ (λ e. rw e) (λ n21. no-length kind n16 n17 n18 n20 n21)))))
 
 -- the event at a place lies within the input
 within-event : (input : List ℕ) (at : ℕ) → Within input at (eventAt input at)

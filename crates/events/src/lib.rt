@@ -1,8 +1,9 @@
-// The bench program's input: where the plan ends, the event at a place, and the payload that a reception hands on.
+// The bench program's input: where the plan ends, the event at a place, and the payload that a reception or a response hands on.
 use text::put_word;
 ghost use mathlib.Core.Path.{_≡_};
-ghost use Prim.Native.Nat.{_+_, _≤_};
+ghost use Prim.Native.Nat.{_+_, _≤_, _<_};
 ghost use lib.ListN.{length};
+ghost use Rattle.base.specs.Numbers.{byteAt, twoAt};
 ghost use Rattle.text.specs.Text.{Put};
 ghost use Rattle.events.specs.Events.{frontOf, eventLength, wholeEvent, eventAt, payloadAt, Inside, Within};
 
@@ -22,6 +23,17 @@ pub enum Event {
     Tick,
     Take {
         node: usize,
+    },
+    // from a LIN node; the data as in a reception, the checksum behind them
+    Response {
+        node: usize,
+        id: usize,
+        length: usize,
+        sum: u8,
+    },
+    NoResponse {
+        node: usize,
+        id: usize,
     },
     // cut, or of an unknown kind
     Bad,
@@ -49,7 +61,7 @@ pub fn front_of(input: &[u8]) -> Front
 
 // How many bytes an event record of a kind has; 0 where there is no such kind.
 fn event_length(kind: u8) -> usize
-    ensures { λ r. ⌜ (r ≡ eventLength kind) × (r ≤ 13) ⌝ }
+    ensures { λ r. ⌜ (r ≡ eventLength kind) × (r ≤ 14) ⌝ }
 {
     if kind == 16 {
         return 13;
@@ -60,7 +72,35 @@ fn event_length(kind: u8) -> usize
     if kind == 18 {
         return 2;
     }
+    if kind == 20 {
+        return 14;
+    }
+    if kind == 21 {
+        return 4;
+    }
     0
+}
+
+// What records say behind their kind: the node, the ID, the data's length.
+fn node_at(input: &[u8], at: usize) -> usize
+    requires { ⌜ at + 2 ≤ length (now input) ⌝ }
+    ensures { λ r. ⌜ r ≡ byteAt (now (input .entry)) (at + 1) ⌝ }
+{
+    base::wide(input[at + 1])
+}
+
+fn id_at(input: &[u8], at: usize) -> usize
+    requires { ⌜ at + 4 ≤ length (now input) ⌝ }
+    ensures { λ r. ⌜ r ≡ twoAt (now (input .entry)) (at + 2) ⌝ }
+{
+    base::two_at(input, at + 2)
+}
+
+fn length_at(input: &[u8], at: usize) -> usize
+    requires { ⌜ at + 5 ≤ length (now input) ⌝ }
+    ensures { λ r. ⌜ (r ≡ byteAt (now (input .entry)) (at + 4)) × (r < 256) ⌝ }
+{
+    base::wide(input[at + 4])
 }
 
 // An event record of a kind that is whole.
@@ -70,9 +110,9 @@ fn whole_event(kind: u8, input: &[u8], at: usize) -> Event
 {
     if kind == 16 {
         return Event::Reception {
-            node: base::wide(input[at + 1]),
-            id: base::two_at(input, at + 2),
-            length: base::wide(input[at + 4]),
+            node: node_at(input, at),
+            id: id_at(input, at),
+            length: length_at(input, at),
         };
     }
     if kind == 17 {
@@ -80,7 +120,21 @@ fn whole_event(kind: u8, input: &[u8], at: usize) -> Event
     }
     if kind == 18 {
         return Event::Take {
-            node: base::wide(input[at + 1]),
+            node: node_at(input, at),
+        };
+    }
+    if kind == 20 {
+        return Event::Response {
+            node: node_at(input, at),
+            id: id_at(input, at),
+            length: length_at(input, at),
+            sum: input[at + 13],
+        };
+    }
+    if kind == 21 {
+        return Event::NoResponse {
+            node: node_at(input, at),
+            id: id_at(input, at),
         };
     }
     Event::Bad
@@ -101,12 +155,12 @@ pub fn event_at(input: &[u8], at: usize) -> Event
     whole_event(kind, input, at)
 }
 
-// The payload that the reception at a place hands on, put at the start of `out`; the answer is its length.
+// The payload that the reception or the response at a place hands on, put at the start of `out`; the answer is its length.
 pub fn payload_at(input: &[u8], at: usize, out: &mut [u8]) -> usize
     requires { ⌜ (at + 13 ≤ length (now input)) × (9 ≤ length (now out)) ⌝ }
     ensures { λ r. ⌜ (Put (now (out .entry)) 0 (payloadAt (now (input .entry)) at) (now (out .exit)) r) × (r ≤ 9) ⌝ }
 {
-    let length = base::wide(input[at + 4]);
+    let length = length_at(input, at);
     if 8 < length {
         return put_word(out, 0, &[0u8; 9]);
     }

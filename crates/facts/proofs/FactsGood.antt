@@ -11,20 +11,21 @@ use Rattle.records.specs.Kinds.{stageOf}
 use Rattle.records.specs.Records.{records}
 use Rattle.plan.specs.declared.progress.Progress.{Progress}
 use Rattle.plan.specs.Progress.{counted, after, start}
-use Rattle.plan.specs.Tests.{inRange}
+use Rattle.plan.specs.Tests.{inRange, fitsNode}
 use Rattle.plan.specs.Check.{sizesAfter, setsAfter, checkPlan}
 use Rattle.plan.specs.Rows.{rowsFrom, rowsOf, claimsOf, txFrames, txOf, nodesIn}
 use Rattle.plan.proofs.Turn.{sets-length}
-use Rattle.facts.specs.Good.{Each, Along, InPlace, Few, SignalsFit, sizesOf, Followed, GoodPlan}
+use Rattle.facts.specs.Good.{Each, Along, InPlace, LinLast, Few, SignalsFit, sizesOf, Followed, GoodPlan}
 use Rattle.facts.specs.Statements.{FactsGood, RefusedLacks}
-use Rattle.facts.proofs.Lists.{each-all}
+use Rattle.facts.proofs.Lists.{each-both, each-all}
 use Rattle.plan.proofs.CheckLaws.{Passed}
 use Rattle.facts.proofs.Passes.{Passes, finally, sizesFinally, passes-good}
 use Rattle.facts.proofs.Places.{nothing}
 use Rattle.facts.proofs.Totals.{totals, rows-count}
 use Rattle.facts.proofs.Counts.{Bounded, bounded-before}
 use Rattle.facts.proofs.Few.{FewMore, few-next, bounded-room}
-use Rattle.facts.proofs.Ranges.{range-same}
+use Rattle.facts.proofs.Ranges.{range-same, fits-same}
+use Rattle.facts.proofs.Lin.{LinSoFar, lin-next, lin-fits}
 use Rattle.facts.proofs.Rising.{RisingOver, rising-next}
 use Rattle.facts.proofs.Signals.{signals-next}
 use Rattle.facts.proofs.Sizes.{sizes-length}
@@ -36,10 +37,13 @@ use Rattle.facts.proofs.Whole.{zeros, zeros-length, nobody, whole-claim
 -- the facts of the records from a progress on; `all` are the sizes of the plan's Tx frames
 record Rest (all : List ℕ) (p : Progress) (sizes sets : List ℕ) (rs : List Record) : Type 0 where
   place : InPlace (p .stage) rs
+  lin : LinSoFar (p .counts) rs
+  lins : Along LinLast rs
   bounded : Bounded (finally (p .counts) rs)
   few : FewMore (p .row) rs
   fews : Along Few rs
   ranges : Each (λ r. inRange (finally (p .counts) rs .nodes) r ≡ true) rs
+  linRanges : Each (λ r. fitsNode (finally (p .counts) rs) r ≡ true) rs
   rising : RisingOver (p .row .floor) (rowsFrom (p .counts .rx) rs)
   signals : SignalsFit (p .row .room) rs
   long : length all ≤ length sets
@@ -59,6 +63,7 @@ rest-step all p sizes sets r rs h =
     let placed = h .place .0 in
     let place = h .place .1 in
     let counted-then = bounded-before rs (stageOf r) (counted (p .counts) r) place (h .bounded) in
+    let lin-then = lin-next (p .counts) r rs (h .lins .0) (h .lin) in
     let rises-then = rising-next (p .number) (p .counts) (p .row) r rs (h .rising) in
     let claims-then = claims-next all sets sizes (h .long) (p .number) (h .number) (h .position) (p .counts) (p .row) r rs (h .final) place
     (placed .known) (placed .whole) (h .signals) (h .claims) in (
@@ -67,8 +72,10 @@ rest-step all p sizes sets r rs h =
         known = placed .known;
         whole = placed .whole;
         stands = placed .stands;
+        first = lin-then .0;
         room = bounded-room (p .counts) (p .row) r rs counted-then (h .few);
         range = sym (range-same (p .counts) r rs place) ∙ h .ranges .0;
+        fits = sym (fits-same (p .counts) r rs place) ∙ h .linRanges .0;
         order = rises-then .0;
         inside = claims-then .0 .inside;
         free = claims-then .0 .free;
@@ -77,10 +84,13 @@ rest-step all p sizes sets r rs h =
       },
       record {
         place = place;
+        lin = lin-then .1;
+        lins = h .lins .1;
         bounded = h .bounded;
         few = few-next (p .number) (p .row) r rs (placed .known) (placed .whole) place (h .few) (h .fews .0);
         fews = h .fews .1;
         ranges = h .ranges .1;
+        linRanges = h .linRanges .1;
         rising = rises-then .1;
         signals = signals-next (p .number) (p .row) r rs (h .signals);
         long = omega (arith, h .long, sets-length (p .row) sets r);
@@ -112,10 +122,13 @@ whole plan h =
     let e : finally (start .counts) rs .nodes ≡ nodesIn rs = omega arith in
     record {
       place = h .place;
+      lin = record { most = omega arith; none = λ l. absurd (omega arith) };
+      lins = h .lin;
       bounded = b;
       few = omega (arith, nothing rs 0 (h .place) (omega arith));
       fews = k .few;
       ranges = rw e (h .ranges);
+      linRanges = each-both (lin-fits rs (h .lin) (finally (start .counts) rs) (omega arith)) rs (h .ranges) (h .linRanges);
       rising = record { above = each-all (λ r. omega arith) (rowsFrom 0 rs); rising = h .rising };
       signals = h .signals;
       long = omega (arith, sizes-length (txFrames rs), zeros-length);

@@ -9,15 +9,17 @@ use Rattle.records.specs.Records.{records}
 use Rattle.plan.specs.declared.verdict.Verdict.the-variants.{Good}
 use Rattle.plan.specs.Progress.{start}
 use Rattle.plan.specs.Check.{checkPlan}
-use Rattle.plan.specs.Rows.{rowsOf, claimsOf, txFrames, txOf, nodesIn}
-use Rattle.facts.specs.Good.{InPlace, InRange, Counted, sizesOf, GoodPlan}
+use Rattle.plan.specs.Rows.{rowsOf, claimsOf, txFrames, txOf, nodesIn, typesIn}
+use Rattle.facts.specs.Good.{Each, Along, InPlace, LinLast, InRange, InLinRange, Counted, sizesOf, GoodPlan}
 use Rattle.facts.specs.Statements.{Answered, GoodFacts}
+use Rattle.facts.proofs.Lists.{each-both}
 use Rattle.facts.proofs.Passes.{Passes, finally, good-passes, passes-good}
 use Rattle.facts.proofs.Places.{passes-place}
 use Rattle.facts.proofs.Totals.{totals, rows-count}
 use Rattle.facts.proofs.Counts.{Bounded, passes-bounded}
 use Rattle.facts.proofs.Few.{passes-few}
-use Rattle.facts.proofs.Ranges.{passes-ranges}
+use Rattle.facts.proofs.Ranges.{passes-ranges, passes-fits}
+use Rattle.facts.proofs.Lin.{cans-first, passes-first, fits-lin}
 use Rattle.facts.proofs.Rising.{passes-rising}
 use Rattle.facts.proofs.Signals.{passes-signals}
 use Rattle.facts.proofs.Sizes.{sizes-length}
@@ -61,6 +63,17 @@ module _ (plan : List ℕ) (h : Passes start zeros zeros (records plan)) where
       let e : finally (start .counts) (records plan) .nodes ≡ nodesIn (records plan) = omega arith in
       rw e at (passes-ranges (records plan) start zeros zeros h)
 
+  lin : Along LinLast (records plan)
+  unfolding start
+  lin = cans-first (records plan) (start .counts) (passes-first (records plan) start zeros zeros h) (omega arith)
+
+  lin-ranges : Each (InLinRange (typesIn (records plan))) (records plan)
+  unfolding start
+  lin-ranges =
+      let t = totals (records plan) 0 (start .counts) place in
+      each-both (fits-lin (records plan) lin (finally (start .counts) (records plan)) (omega arith)) (records plan) ranges
+      (passes-fits (records plan) start zeros zeros h)
+
   claims : Claimed (sizesOf (txOf plan)) zeros (claimsOf plan)
   unfolding start txOf claimsOf rowsOf
   claims =
@@ -77,8 +90,10 @@ module _ (plan : List ℕ) (h : Passes start zeros zeros (records plan)) where
       record {
         nonempty = some-record (records plan) h;
         place = place;
+        lin = lin;
         counts = counts;
         ranges = ranges;
+        linRanges = lin-ranges;
         rising = passes-rising (records plan) start zeros zeros h .rising;
         signals = passes-signals (records plan) start zeros zeros h;
         fits = claims .fits;

@@ -5,6 +5,7 @@ pub mod Totals
 pub mod Counts
 pub mod Few
 pub mod Ranges
+pub mod Lin
 pub mod Rising
 pub mod Signals
 pub mod Sizes

@@ -10,6 +10,11 @@ unfolding Each
 each-map f [] h = tt
 each-map f (x ∷ xs) h = (f x (h .0), each-map f xs (h .1))
 
+pub each-both {ℓ} : {A : Type ℓ} {P Q R : A → Type 0} → ((x : A) → P x → Q x → R x) → (xs : List A) → Each P xs → Each Q xs → Each R xs
+unfolding Each
+each-both f [] h k = tt
+each-both f (x ∷ xs) h k = (f x (h .0) (k .0), each-both f xs (h .1) (k .1))
+
 pub each-all {ℓ} : {A : Type ℓ} {P : A → Type 0} → ((x : A) → P x) → (xs : List A) → Each P xs
 unfolding Each
 each-all f [] = tt

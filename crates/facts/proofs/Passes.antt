@@ -78,7 +78,7 @@ module _ (n t r : ℕ) where
 passed-judged : (p : Progress) (sizes sets : List ℕ) (r : Record) → Passed p sizes sets r → judged p sizes sets r ≡ Go (after p r)
 unfolding judged placed need pick
 passed-judged p sizes sets r h =
-    rw (h .follows, h .known, h .whole, h .stands, h .room, h .range, h .order, h .inside, h .free, h .indicated, h .indicator)
+    rw (h .follows, h .known, h .whole, h .stands, h .first, h .room, h .range, h .fits, h .order, h .inside, h .free, h .indicated, h .indicator)
 
 pub passes-good :
     (rs : List Record) (p : Progress) (sizes sets : List ℕ) → Passes p sizes sets rs

@@ -48,9 +48,11 @@ later stage (Destination body) h = omega arith
 later stage (Broken fault) h = absurd (no-fault fault (h .known) (h .whole))
 
 -- what a record of a later kind leaves as it is
-pub counted-nodes : (c : Counts) (r : Record) → 3 ≤ stageOf r → counted c r .nodes ≡ c .nodes
+pub same-nodes : (c : Counts) (r : Record) → 3 ≤ stageOf r → (counted c r .nodes ≡ c .nodes) × (counted c r .can ≡ c .can)
 unfolding stageOf counted
-counted-nodes c = by-node (λ r. 3 ≤ stageOf r → counted c r .nodes ≡ c .nodes) (λ body h. absurd (omega arith)) (λ r no h. no .by _ _)
+same-nodes c =
+    by-node (λ r. 3 ≤ stageOf r → (counted c r .nodes ≡ c .nodes) × (counted c r .can ≡ c .can)) (λ body h. absurd (omega arith))
+    (λ r no h. (no .by _ _, no .by _ _))
 
 same-tx : (c : Counts) (sizes : List ℕ) (r : Record) → 4 ≤ stageOf r → (counted c r .tx ≡ c .tx) × ((t : ℕ) → sizesAfter t sizes r ≡ sizes)
 unfolding stageOf counted sizesAfter
@@ -60,12 +62,15 @@ same-tx c sizes =
 
 -- ---- so the nodes are all there when a frame is met, and the Tx frames when an Rx frame is
 
-pub nodes-stay : (rs : List Record) (stage : ℕ) (c : Counts) → InPlace stage rs → 3 ≤ stage → finally c rs .nodes ≡ c .nodes
+pub nodes-stay :
+    (rs : List Record) (stage : ℕ) (c : Counts) → InPlace stage rs → 3 ≤ stage → (finally c rs .nodes ≡ c .nodes) × (finally c rs .can ≡ c .can)
 unfolding InPlace finally
-nodes-stay [] stage c h l = refl
+nodes-stay [] stage c h l = (refl, refl)
 nodes-stay (r ∷ rs) stage c h l =
     let k = later stage r (h .0) .frames l in
-    nodes-stay rs (stageOf r) (counted c r) (h .1) k ∙ counted-nodes c r k
+    let rest = nodes-stay rs (stageOf r) (counted c r) (h .1) k in
+    let here = same-nodes c r k in
+    (rest .0 ∙ here .0, rest .1 ∙ here .1)
 
 pub tx-stay : (rs : List Record) (stage : ℕ) (c : Counts) → InPlace stage rs → 4 ≤ stage → finally c rs .tx ≡ c .tx
 unfolding InPlace finally

@@ -6,16 +6,20 @@ use Prim.Native.Nat.{ℕ, suc, _+_, _*_, _≤_, _<_}
 use lib.Dec.{eqb}
 use lib.ListN.{length, getD}
 use Rattle.base.specs.Pick.{pick}
+use Rattle.records.specs.declared.record.NodeType.{NodeType}
+use Rattle.records.specs.declared.record.NodeType.the-variants.{Can, Lin}
+use Rattle.records.specs.declared.record.NodeBody.{NodeBody}
 use Rattle.records.specs.declared.record.TxFrame.{TxFrame}
 use Rattle.records.specs.declared.record.RxFrame.{RxFrame}
 use Rattle.records.specs.declared.record.Record.{Record}
-use Rattle.records.specs.declared.record.Record.the-variants.{Rx}
-use Rattle.records.specs.Views.{inRow, noRecord}
+use Rattle.records.specs.declared.record.Record.the-variants.{Node, Rx}
+use Rattle.records.specs.Views.{onTx, onRx, inRow, noRecord}
 use Rattle.records.specs.Kinds.{rxStage, signalStage, destinationStage, stageOf}
 use Rattle.records.specs.Records.{records}
+use Rattle.records.specs.Nodes.{typeOf}
 use Rattle.plan.specs.Progress.{keyOf}
 use Rattle.plan.specs.Tests.{isKind, isWhole, mayStand, inRange}
-use Rattle.plan.specs.Rows.{widthOf, Claim, Row, rowsOf, claimsOf, txOf, nodesIn}
+use Rattle.plan.specs.Rows.{widthOf, Claim, Row, rowsOf, claimsOf, txOf, nodesIn, typesIn}
 
 -- of each element
 unfoldable pub Each {ℓ} : {A : Type ℓ} → (A → Type 0) → List A → Type 0
@@ -38,6 +42,18 @@ pub record Placed (stage : ℕ) (r : Record) : Type 0 where
 unfoldable pub InPlace : ℕ → List Record → Type 0
 InPlace stage [] = Unit {0}
 InPlace stage (r ∷ rs) = Placed stage r × InPlace (stageOf r) rs
+
+-- ---- "LIN nodes follow all CAN nodes" (document 02, Ticket 2)
+
+-- a node of a type
+abbrev pub NodeOf : NodeType → Record → Type 0
+NodeOf type r = (body : NodeBody) × (r ≡ Node body) × (typeOf (body .of) ≡ type)
+
+abbrev pub NoCan : Record → Type 0
+NoCan r = NodeOf Can r → ⊥
+
+abbrev pub LinLast : Record → List Record → Type 0
+LinLast r rs = NodeOf Lin r → Each NoCan rs
 
 -- ---- "At most 16 nodes, 256 Tx frames, 256 Rx frames, 1,024 signals (64 in a frame), 2,048 destinations (15 for a signal)."
 
@@ -67,10 +83,24 @@ pub record Counted (plan : List ℕ) : Type 0 where
   pub destinations : countOf destinationStage (records plan) ≤ 2048
   pub few : Along Few (records plan)
 
--- ---- "Ranges: order 0–1; type 0; node below the node count; .." The node count is the plan's.
+-- ---- "Ranges: order 0–1; .. node below the node count; .." The node count is the plan's.
 
 abbrev pub InRange : List ℕ → Type 0
 InRange plan = Each (λ r. inRange (nodesIn (records plan)) r ≡ true) (records plan)
+
+-- ---- "IDs there run 0 to 59, sizes 1 to 8" (document 02, Ticket 2): there is on a LIN node. The types are those of the nodes, in number order.
+
+pub record LinRanges (id size : ℕ) : Type 0 where
+  pub below : id < 60
+  pub some : 1 ≤ size
+  pub most : size ≤ 8
+
+abbrev pub OnLin : List NodeType → ℕ → ℕ → ℕ → Type 0
+OnLin types node id size = getD types node Can ≡ Lin → LinRanges id size
+
+abbrev pub InLinRange : List NodeType → Record → Type 0
+InLinRange types r =
+    onTx (onRx (Unit {0}) (λ frame. OnLin types (frame .node) (frame .id) (frame .size)) r) (λ frame. OnLin types (frame .node) (frame .id) (frame .size)) r
 
 -- ---- 6: "an Rx frame's (node, ID) is not above that of the one before": here each is above those of all rows before it
 
@@ -125,12 +155,15 @@ Followed r rs = (x : RxFrame) → r ≡ Rx x → x .enable ≡ 1 → (stageAt 0 
 
 -- ---- a good plan
 
--- 1 to 9 in their order, but for 2, 1 and 3, which stand together in `place`, and the second half of 9, which stands in `fits`
+-- 1 to 9 in their order, but for 2, 1 and 3, which stand together in `place`, and the second half of 9, which stands in `fits`; what 3 and 5 ask of
+-- LIN nodes stands in `lin` and `linRanges`
 pub record GoodPlan (plan : List ℕ) : Type 0 where
   pub nonempty : 0 < length (records plan)
   pub place : InPlace 0 (records plan)
+  pub lin : Along LinLast (records plan)
   pub counts : Counted plan
   pub ranges : InRange plan
+  pub linRanges : Each (InLinRange (typesIn (records plan))) (records plan)
   pub rising : Rising (rowsOf plan)
   pub signals : SignalsFit 0 (records plan)
   pub fits : Each (Fits (sizesOf (txOf plan))) (claimsOf plan)

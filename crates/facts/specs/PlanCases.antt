@@ -1,4 +1,4 @@
--- Small plans with the verdict of each: every refusal number, document 01's cases 10, 11 and 12, and the plan of its listing.
+-- Small plans with the verdict of each: every refusal number, document 01's cases 10, 11 and 12, the plan of its listing, and plans with LIN nodes.
 use mathlib.Core.Path.{_≡_}
 use mathlib.Core.List.{List, [], _∷_, _++_}
 use Prim.Native.Nat.{ℕ}
@@ -19,6 +19,10 @@ head = 0x01 ∷ 0x00 ∷ []
 abbrev pub node : List ℕ
 node = 0x02 ∷ 0x00 ∷ []
 
+-- a LIN node
+abbrev pub lin : List ℕ
+lin = 0x02 ∷ 0x01 ∷ []
+
 -- a Tx frame on node 0, ID 0100
 abbrev pub tx : ℕ → List ℕ
 tx size = 0x03 ∷ 0x00 ∷ 0x01 ∷ 0x00 ∷ size ∷ 0x01 ∷ 0x03 ∷ 0x03 ∷ 0x02 ∷ 0x00 ∷ 0x00 ∷ 0x00 ∷ 0x00 ∷ 0x00 ∷ 0x00 ∷ 0x00 ∷ 0x00 ∷ []
@@ -33,6 +37,14 @@ signal position size = 0x05 ∷ position ∷ size ∷ []
 abbrev pub destination : ℕ → ℕ → List ℕ
 destination number position = 0x06 ∷ 0x00 ∷ number ∷ position ∷ []
 
+-- sixteen nodes, of which the last is a LIN node
+abbrev pub sixteen : List ℕ
+sixteen = node ++ node ++ node ++ node ++ node ++ node ++ node ++ node ++ node ++ node ++ node ++ node ++ node ++ node ++ node ++ lin
+
+-- a Tx frame of zeros on node 1, which the cases have as a LIN node: the last byte of its ID, and its size
+abbrev pub linTx : ℕ → ℕ → List ℕ
+linTx id size = 0x03 ∷ 0x01 ∷ 0x00 ∷ id ∷ size ∷ 0x01 ∷ 0x03 ∷ 0x03 ∷ 0x00 ∷ 0x00 ∷ 0x00 ∷ 0x00 ∷ 0x00 ∷ 0x00 ∷ 0x00 ∷ 0x00 ∷ 0x00 ∷ []
+
 -- a head, a node, a Tx frame of two bytes, and an Rx frame of one byte with no failure bit, or with one at a position
 abbrev pub plain : List ℕ
 plain = head ++ node ++ tx 2 ++ rx 0 0x00 0x20 1 0 0
@@ -46,6 +58,18 @@ listing =
     0x01 ∷ 0x00 ∷ 0x02 ∷ 0x00 ∷ 0x03 ∷ 0x00 ∷ 0x01 ∷ 0x00 ∷ 0x02 ∷ 0x01 ∷ 0x03 ∷ 0x03 ∷ 0x02
     ∷ 0x00 ∷ 0x00 ∷ 0x00 ∷ 0x00 ∷ 0x00 ∷ 0x00 ∷ 0x00 ∷ 0x00
     ∷ 0x04 ∷ 0x00 ∷ 0x00 ∷ 0x20 ∷ 0x01 ∷ 0x01 ∷ 0x02 ∷ 0x02 ∷ 0x01 ∷ 0x0F ∷ 0x02 ∷ 0x05 ∷ 0x02 ∷ 0x04 ∷ 0x06 ∷ 0x00 ∷ 0x00 ∷ 0x06 ∷ []
+
+-- "The pumps on LIN" (document 02, Ticket 2): node 0 is a CAN node, node 1 a LIN node
+abbrev pub pumps : List ℕ
+pumps =
+    -- the head, and the two nodes
+    0x01 ∷ 0x00 ∷ 0x02 ∷ 0x00 ∷ 0x02 ∷ 0x01
+    -- Tx frame 0: node 0, ID 0100, size 2, reload 2, stopped at first, send on change
+    ∷ 0x03 ∷ 0x00 ∷ 0x01 ∷ 0x00 ∷ 0x02 ∷ 0x01 ∷ 0x02 ∷ 0x00 ∷ 0x02 ∷ 0x00 ∷ 0x00 ∷ 0x00 ∷ 0x00 ∷ 0x00 ∷ 0x00 ∷ 0x00 ∷ 0x00
+    -- Tx frame 1: node 1, ID 02, size 2, reload 3, payload 4A 55
+    ∷ 0x03 ∷ 0x01 ∷ 0x00 ∷ 0x02 ∷ 0x02 ∷ 0x01 ∷ 0x03 ∷ 0x03 ∷ 0x00 ∷ 0x4A ∷ 0x55 ∷ 0x00 ∷ 0x00 ∷ 0x00 ∷ 0x00 ∷ 0x00 ∷ 0x00
+    -- Rx frame 0: node 1, ID 01, size 1, reload 2, long count 2; its signal is as that of document 01's listing
+    ∷ 0x04 ∷ 0x01 ∷ 0x00 ∷ 0x01 ∷ 0x01 ∷ 0x01 ∷ 0x02 ∷ 0x02 ∷ 0x01 ∷ 0x0F ∷ 0x02 ∷ 0x05 ∷ 0x02 ∷ 0x04 ∷ 0x06 ∷ 0x00 ∷ 0x00 ∷ 0x06 ∷ []
 
 -- ---- the cases
 
@@ -91,6 +115,28 @@ planCases =
     ∷ record { plan = head; verdict = Good 0 0 0 }
     -- the plan of the listing
     ∷ record { plan = listing; verdict = Good 1 1 1 }
+    ∷ record { plan = pumps; verdict = Good 2 2 1 }
+    -- document 02, Ticket 2. 3: a CAN node after a LIN node, before 4
+    ∷ record { plan = head ++ lin ++ node; verdict = Refused Place 2 }
+    ∷ record { plan = head ++ sixteen ++ node; verdict = Refused Place 17 }
+    ∷ record { plan = head ++ sixteen ++ lin; verdict = Refused Count 17 }
+    -- 5: a type that there is not, also after a LIN node
+    ∷ record { plan = head ++ 0x02 ∷ 0x02 ∷ []; verdict = Refused Range 1 }
+    ∷ record { plan = head ++ lin ++ 0x02 ∷ 0x02 ∷ []; verdict = Refused Range 2 }
+    -- 5: ID 60, or size 0, on a LIN node; on a CAN node both are good
+    ∷ record { plan = head ++ node ++ lin ++ linTx 60 8; verdict = Refused Range 3 }
+    ∷ record { plan = head ++ node ++ lin ++ rx 1 0x00 60 8 0 0; verdict = Refused Range 3 }
+    ∷ record { plan = head ++ node ++ lin ++ linTx 59 0; verdict = Refused Range 3 }
+    ∷ record { plan = head ++ node ++ lin ++ rx 1 0x00 59 0 0 0; verdict = Refused Range 3 }
+    ∷ record { plan = head ++ node ++ lin ++ linTx 59 9; verdict = Refused Range 3 }
+    ∷ record { plan = head ++ node ++ node ++ linTx 60 0 ++ rx 1 0x00 60 0 0 0; verdict = Good 2 1 1 }
+    -- ID 59, sizes 1 and 8
+    ∷ record { plan = head ++ node ++ lin ++ linTx 59 1 ++ linTx 59 8; verdict = Good 2 2 0 }
+    ∷ record { plan = head ++ node ++ lin ++ rx 1 0x00 0 1 0 0 ++ rx 1 0x00 59 8 0 0; verdict = Good 2 0 2 }
+    -- LIN nodes alone, and after CAN nodes, with frames on both
+    ∷ record { plan = head ++ lin ++ lin; verdict = Good 2 0 0 }
+    ∷ record { plan = head ++ node ++ lin ++ tx 0 ++ linTx 0 1; verdict = Good 2 2 0 }
+    ∷ record { plan = head ++ node ++ lin ++ tx 8 ++ rx 0 0x00 60 8 0 0 ++ rx 1 0x00 59 8 1 63 ++ signal 0 8 ++ destination 0 0; verdict = Good 2 1 2 }
     ∷ []
 
 abbrev pub VerdictsHold : List PlanCase → Type 0

@@ -19,7 +19,7 @@ use Rattle.area.specs.Claims.{RxEvent}
 use Rattle.opening.specs.Opened.{opened, openedAnswer, openedArea}
 use Rattle.tables.specs.Reads.{Reads, Begun}
 use Rattle.tables.proofs.Opened.{opened-reads}
-use Rattle.model.specs.Calls.{Step, opening, reception, tick, take, fullness, call}
+use Rattle.model.specs.Calls.{Step, opening, reception, response, noResponse, tick, take, fullness, call}
 use Rattle.history.specs.Calls.{areaAfter, stepped, afterIn}
 use Rattle.history.specs.Past.{Past, unopened, openedPast, told, pastAfter, pastAfterAll, pastOf}
 use Rattle.history.proofs.Later.{Later, reads-after}
@@ -86,6 +86,8 @@ module _ (Q : List ℕ → List RxEvent → List ℕ → Type 0)
   unfolding pastAfter areaAfter stepped told
   after-call past (opening plan) a h = after-opening past plan a h (checkPlan plan) refl
   after-call past (call (reception n id payload)) a h = more (past .plan) (past .log) (call (reception n id payload)) tt a h
+  after-call past (call (response n id payload sum)) a h = more (past .plan) (past .log) (call (response n id payload sum)) tt a h
+  after-call past (call (noResponse n id)) a h = more (past .plan) (past .log) (call (noResponse n id)) tt a h
   after-call past (call (tick report)) a h = more (past .plan) (past .log) (call (tick report)) tt a h
   after-call past (call (take n)) a h = quiet (past .plan) (past .log) (call (take n)) tt a (λ plan. refl) h
   after-call past (call (fullness t)) a h = quiet (past .plan) (past .log) (call (fullness t)) tt a (λ plan. refl) h

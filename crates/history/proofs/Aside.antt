@@ -2,10 +2,8 @@
 use mathlib.Core.Bool.{Bool}
 use mathlib.Core.List.{List, [], _∷_}
 use Prim.Native.Nat.{ℕ, zero, suc, _<_, _≤_}
-use native.Mathlib.Nat.{mod-eq-of-lt}
 use native.Mathlib.Omega.{arith}
 use lib.Dec.{ltb}
-use lib.ListN.{set}
 use borrow.Author.Tests.{ltb-true}
 use Rattle.base.specs.Numbers.{byteAt}
 use Rattle.base.proofs.Picks.{cases}
@@ -14,12 +12,11 @@ use Rattle.plan.specs.Rows.{Claim}
 use Rattle.facts.specs.Good.{Each}
 use Rattle.facts.specs.Statements.{Small}
 use Rattle.area.specs.Layout.{txTimersStart, longStart, waitsStart, fullStart, payloadsStart, txMasksStart, nodeCountByte}
-use Rattle.area.specs.Layout.{txReload, txTimer, rxTimer, long, waits, nodeCount}
-use Rattle.area.specs.Queue.{scheduled, oldest, dequeued}
+use Rattle.area.specs.Layout.{waiterRange, txReload, txTimer, long, waits, nodeCount}
+use Rattle.area.specs.Queue.{scheduled, requested, oldest, dequeued}
 use Rattle.area.specs.Claims.{RxEvent, sentIf, allDone}
 use Rattle.area.proofs.Frame.{Same, NoEnds, NoRing, Off, same-refl, same-then, same-set, same-pick}
-use Rattle.area.proofs.Frame.{same-scheduled, same-sentIf, same-dequeued, same-done}
-use Rattle.reception.specs.Reception.{restarted}
+use Rattle.area.proofs.Frame.{same-scheduled, same-requested, same-sentIf, same-dequeued, same-done}
 use Rattle.ticking.specs.Tick.{timed, txTick, txTicks, longLowered}
 use Rattle.taking.specs.Taken.{oldestArea, takenArea}
 
@@ -33,34 +30,30 @@ pub record Aside (P : ℕ → Type 0) : Type 0 where
 module _ {P : ℕ → Type 0} (f : Aside P) where
   -- ---- timers and long counters
 
-  pub aside-count : (a : List ℕ) (at v : ℕ) → txTimersStart ≤ at → at < longStart → Same P a (set a at v)
-  aside-count a at v l m = same-set _ _ (f .timers at l m) (same-refl a)
-
   pub aside-timed : (a : List ℕ) (reload at : ℕ) → txTimersStart ≤ at → at < longStart → Same P a (timed a reload at)
   unfolding timed
-  aside-timed a reload at l m = aside-count a at _ l m
+  aside-timed a reload at l m = same-set _ _ (f .timers at l m) (same-refl a)
 
   pub aside-long : (a : List ℕ) (r : ℕ) → (P (long r) → ⊥) → Same P a (longLowered a r)
   unfolding longLowered
   aside-long a r never = same-set _ _ never (same-refl a)
 
-  pub aside-restarted : (a : List ℕ) (r : ℕ) → r < 256 → (P (long r) → ⊥) → Same P a (restarted a r)
-  unfolding restarted
-  aside-restarted a r h never = rw (mod-eq-of-lt h) (same-set _ _ never (aside-count a (rxTimer r) _ (omega arith) (omega arith)))
-
   -- ---- queues
 
-  wait : (t : ℕ) → t < 256 → P (waits t) → ⊥
-  wait t h = f .waits _ (omega arith) (omega arith)
+  wait : (k : ℕ) → k < waiterRange → P (waits k) → ⊥
+  wait k h = f .waits _ (omega arith) (omega arith)
 
   timer : (t : ℕ) → t < 256 → P (txTimer t) → ⊥
   timer t h = f .timers _ (omega arith) (omega arith)
 
   pub aside-scheduled : (a : List ℕ) (t : ℕ) → t < 256 → Same P a (scheduled a t)
-  aside-scheduled a t h = same-scheduled (f .ends) (f .ring) a t (wait t h) (timer t h)
+  aside-scheduled a t h = same-scheduled (f .ends) (f .ring) a t (wait t (omega arith)) (timer t h)
+
+  pub aside-requested : (a : List ℕ) (r : ℕ) → r < 256 → Same P a (requested a r)
+  aside-requested a r h = same-requested (f .ends) (f .ring) a r (wait _ (omega arith))
 
   pub aside-sentIf : (flags : ℕ) (changed : Bool) (a : List ℕ) (t : ℕ) → t < 256 → Same P a (sentIf flags changed a t)
-  aside-sentIf flags changed a t h = same-sentIf (f .ends) (f .ring) flags changed a t (wait t h) (timer t h)
+  aside-sentIf flags changed a t h = same-sentIf (f .ends) (f .ring) flags changed a t (wait t (omega arith)) (timer t h)
 
   aside-dequeued : (a : List ℕ) (n : ℕ) → n < 16 → Same P a (dequeued a n)
   unfolding oldest

@@ -1,6 +1,10 @@
+pub mod Pairs
 pub mod Aside
 pub mod Rows
+pub mod Responses
+pub mod Named
 pub mod Steady
+pub mod Again
 pub mod Later
 pub mod Always
 pub mod Replay
@@ -11,7 +15,10 @@ pub mod Ticks
 pub mod Receptions
 pub mod Steps
 pub mod Longs
+pub mod Left
+pub mod Remaining
 pub mod LongTimeouts
+pub mod LongSilences
 pub mod Inserted
 pub mod Strangers
 pub mod Only

@@ -2,10 +2,9 @@
 use mathlib.Core.Path.{_≡_, refl, ap, _∙_}
 use mathlib.Core.List.{List}
 use Prim.Native.Nat.{ℕ, _<_}
-use native.Mathlib.Nat.{mod-eq-of-lt}
 use native.Mathlib.Omega.{arith}
 use lib.Dec.{eqb}
-use lib.ListN.{length, set, length-set}
+use lib.ListN.{length}
 use lib.Seq.{getD-set-same}
 use Rattle.base.specs.Pick.{pick}
 use Rattle.base.specs.Numbers.{byteAt}
@@ -13,14 +12,14 @@ use Rattle.base.proofs.Picks.{by-eqb}
 use Rattle.clock.specs.Timer.{lowered}
 use Rattle.plan.specs.Rows.{rowsOf}
 use Rattle.facts.specs.Good.{GoodPlan}
-use Rattle.area.specs.Layout.{rxReload, rxTimer, long, order, rxFrame, claims}
+use Rattle.area.specs.Layout.{long, order, claims}
 use Rattle.area.specs.Claims.{RxEvent, accepted, expired, allDone}
 use Rattle.area.proofs.Frame.{Same}
-use Rattle.reception.specs.Reception.{restarted, acceptedArea}
 use Rattle.ticking.specs.Tick.{longLowered, expiredArea}
 use Rattle.tables.specs.Reads.{rowAt, Reads}
-use Rattle.history.proofs.Aside.{Aside, aside-long, aside-restarted}
+use Rattle.history.proofs.Aside.{Aside, aside-long}
 use Rattle.history.proofs.Steady.{reads-steady}
+use Rattle.history.proofs.Again.{Again, aside-again}
 use Rattle.history.proofs.Later.{aside-claims, steady-claims}
 use Rattle.history.proofs.Turns.{Turns}
 
@@ -50,20 +49,17 @@ module _ (plan : List ℕ) (good : GoodPlan plan) (r : ℕ) (l : r < length (row
   unclaimed : (a b : List ℕ) → Reads plan a → (e : RxEvent) (q : ℕ) → q < length (rowsOf plan) → Same Here b (allDone (order a) e (claims a q) b)
   unclaimed = aside-claims plan good here-aside (λ j i m p. omega (arith, few r l))
 
-  restarts : (a : List ℕ) → Reads plan a → byteAt (restarted a r) (long r) ≡ rowAt plan r .frame .long
-  unfolding restarted
-  restarts a reads =
-      let timed = set a (rxTimer r) (byteAt a (rxReload r)) in
-      let room : long r < length timed = simp length-set (omega (arith, few r l, reads .header .size)) in
-      rw (mod-eq-of-lt (few r l)) (getD-set-same timed (long r) (rxFrame a r .long) 0 room ∙ ap (λ x. x .long) (reads .rx r l .frame))
+  restarts : (a b : List ℕ) → Reads plan a → Again a r b → byteAt b (long r) ≡ rowAt plan r .frame .long
+  restarts a b reads x = x .long (omega (arith, few r l, reads .header .size)) ∙ ap (λ y. y .long) (reads .rx r l .frame)
 
-  accepts : (a : List ℕ) → Reads plan a → (q : ℕ) (payload : List ℕ) → q < length (rowsOf plan)
-      → byteAt (acceptedArea a q payload) (long r) ≡ turnedLong r (rowAt plan r .frame .long) (byteAt a (long r)) (accepted q payload)
-  unfolding acceptedArea turnedLong
-  accepts a reads q payload h =
-      unclaimed a (restarted a q) reads (accepted q payload) q h .at (long r) refl
-      ∙ by-eqb (λ (v : ℕ). byteAt (restarted a q) (long r) ≡ v) q r _ _ (λ e. rw e (restarts a reads))
-      (λ d. aside-restarted here-aside a q (few q h) (λ p. d (omega arith)) .at (long r) refl)
+  accepts : (a b : List ℕ) → Reads plan a → (q : ℕ) (payload : List ℕ) → q < length (rowsOf plan) → Again a q b
+      → byteAt (allDone (order a) (accepted q payload) (claims a q) b) (long r)
+      ≡ turnedLong r (rowAt plan r .frame .long) (byteAt a (long r)) (accepted q payload)
+  unfolding turnedLong
+  accepts a b reads q payload h x =
+      unclaimed a b reads (accepted q payload) q h .at (long r) refl
+      ∙ by-eqb (λ (v : ℕ). byteAt b (long r) ≡ v) q r _ _ (λ e. restarts a b reads (rw e at x))
+      (λ d. aside-again here-aside (few q h) (λ p. d (omega arith)) x .at (long r) refl)
 
   lowers : (a : List ℕ) → Reads plan a → byteAt (expiredArea a r) (long r) ≡ lowered (rowAt plan r .frame .long) (byteAt a (long r))
   unfolding expiredArea longLowered

@@ -11,14 +11,14 @@ use Rattle.bits.specs.Payload.{bitAt}
 use Rattle.records.specs.Records.{records}
 use Rattle.plan.specs.Rows.{Claim, Row, rowsOf, allClaims, claimsOf, noRow, orderIn}
 use Rattle.facts.specs.Good.{Each, GoodPlan}
-use Rattle.area.specs.Layout.{LongEnough, spot}
+use Rattle.area.specs.Layout.{LongEnough, spot, order, claims}
 use Rattle.area.specs.Claims.{RxEvent, accepted, expired, done, allDone}
-use Rattle.reception.specs.Reception.{restarted, acceptedArea}
 use Rattle.ticking.specs.Tick.{expiredArea}
 use Rattle.tables.specs.Reads.{rowAt, Reads}
 use Rattle.history.specs.Fresh.{Owner, owner}
 use Rattle.facts.proofs.ByNumber.{claims-small}
-use Rattle.history.proofs.Aside.{aside-restarted, aside-long}
+use Rattle.history.proofs.Aside.{aside-long}
+use Rattle.history.proofs.Again.{Again, aside-again}
 use Rattle.history.proofs.Rows.{Of, Numbered, rows-numbered}
 use Rattle.history.proofs.Replay.{rxOf, turned}
 use Rattle.history.proofs.Bits.{Payload, payload-aside, payload-bit, doneIf, allIf, by-owner}
@@ -88,13 +88,12 @@ module _ (plan : List ℕ) (good : GoodPlan plan) (t b : ℕ) (frame : t < 256) 
   abbrev now : List ℕ → ℕ
   now a = bitAt o a (spot t b)
 
-  accepts : (a : List ℕ) → Reads plan a → (r : ℕ) (payload : List ℕ) → r < length (rowsOf plan)
-      → now (acceptedArea a r payload) ≡ turned o w (now a) (accepted r payload)
-  unfolding acceptedArea
-  accepts a reads r payload h =
-      let s = aside-restarted payload-aside a r (omega (arith, good .counts .rx)) (λ p. omega (arith, good .counts .rx)) in
-      let long : LongEnough (restarted a r) = omega (arith, s .len, reads .header .size) in
-      rw (reads .header .order, reads .rx r h .claims) (row-turns plan good o t b frame small (accepted r payload) r h refl (restarted a r) long)
+  accepts : (a c : List ℕ) → Reads plan a → (r : ℕ) (payload : List ℕ) → r < length (rowsOf plan) → Again a r c
+      → now (allDone (order a) (accepted r payload) (claims a r) c) ≡ turned o w (now a) (accepted r payload)
+  accepts a c reads r payload h x =
+      let s = aside-again payload-aside (omega (arith, good .counts .rx)) (λ p. omega (arith, good .counts .rx)) x in
+      let long : LongEnough c = omega (arith, s .len, reads .header .size) in
+      rw (reads .header .order, reads .rx r h .claims) (row-turns plan good o t b frame small (accepted r payload) r h refl c long)
       ∙ ap (λ (v : ℕ). turned o w v (accepted r payload)) (payload-bit o t b frame small s)
 
   expires : (a : List ℕ) → Reads plan a → (r : ℕ) → r < length (rowsOf plan) → now (expiredArea a r) ≡ turned o w (now a) (expired r)

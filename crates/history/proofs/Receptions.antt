@@ -1,51 +1,90 @@
--- A reception turns a number that goes by the events (`Turns`) as its answer tells: by an acceptance for the plan's Rx frame of that node and ID, or
--- not at all.
+-- A reception, a response and "no response" turn a number that goes by the events (`Turns`) as their answers tell: by an acceptance or an expiry of the
+-- plan's Rx frame of that node and ID, or not at all.
 use mathlib.Core.Path.{_≡_, refl}
 use mathlib.Core.List.{List}
-use Prim.Native.Nat.{ℕ}
+use Prim.Native.Nat.{ℕ, _<_}
 use native.Mathlib.Omega.{arith}
+use lib.Dec.{eqb}
+use lib.ListN.{length}
 use Rattle.base.specs.Numbers.{byteAt}
-use Rattle.base.proofs.Ranges.{at-most-le}
-use Rattle.records.specs.declared.record.RxNumber.{RxNumber}
+use Rattle.base.proofs.Picks.{both}
 use Rattle.plan.specs.Rows.{rowsOf}
 use Rattle.facts.specs.Good.{GoodPlan}
-use Rattle.facts.proofs.FactsGood.{facts-good}
 use Rattle.answers.specs.declared.Received.{Received}
 use Rattle.answers.specs.declared.Received.the-variants.{Accepted, NoRow, TooShort, Refused}
-use Rattle.area.specs.Layout.{nodeCountByte}
-use Rattle.area.specs.Claims.{RxEvent}
-use Rattle.reception.specs.Reception.{receivedAnswer, receivedArea}
-use Rattle.reception.proofs.ReceptionLaws.{For, by-answer}
+use Rattle.answers.specs.declared.Responded.{Responded}
+use Rattle.answers.specs.declared.Responded.the-variants as responded
+use Rattle.answers.specs.declared.Silence.{Silence}
+use Rattle.answers.specs.declared.Silence.the-variants as silence
+use Rattle.area.specs.Layout.{long}
+use Rattle.area.specs.Claims.{RxEvent, accepted}
+use Rattle.reception.specs.Reception.{acceptedArea, receivedAnswer, receivedArea}
+use Rattle.polling.specs.Polling.{acceptedArea as respondedWith, respondedAnswer, respondedArea, silentAnswer, silentArea}
+use Rattle.ticking.specs.Tick.{expiredArea}
 use Rattle.tables.specs.Reads.{Reads}
-use Rattle.tables.specs.Statements.{Names}
-use Rattle.tables.proofs.Lookup.{lookup-finds}
-use Rattle.history.specs.Past.{numberFor, toldReception}
+use Rattle.history.specs.Past.{numberFor, toldReception, toldResponse, toldSilence}
 use Rattle.history.proofs.Rows.{number-named}
-use Rattle.history.proofs.Later.{row-found}
+use Rattle.history.proofs.Named.{by-reception, by-response, by-silence}
+use Rattle.history.proofs.Again.{again-restarted, again-long}
 use Rattle.history.proofs.Replay.{replay}
 use Rattle.history.proofs.Turns.{Turns}
 
-module _ {plan : List ℕ} (good : GoodPlan plan) where
-  -- the row that is found is the one that the node and the ID name
-  pub row-named :
-      (a : List ℕ) → Reads plan a → (n id : ℕ) (payload : List ℕ) (r : RxNumber) → For a n id payload r → Names plan n id (r .0)
-  row-named a reads n id payload r f =
-      lookup-finds plan a _ _ _ (facts-good plan good) reads n id (omega (arith, f .known, at-most-le 16 (byteAt a nodeCountByte))) .found r (f .found)
+module _ {plan : List ℕ} (good : GoodPlan plan) {P : ℕ → Type 0} {now : List ℕ → ℕ} {turn : ℕ → RxEvent → ℕ} (u : Turns plan P now turn) (a : List ℕ)
+    (reads : Reads plan a) where
+  -- ---- an acceptance, on CAN and on LIN
 
-  pub reception-turns :
-      {P : ℕ → Type 0} {now : List ℕ → ℕ} {turn : ℕ → RxEvent → ℕ} → Turns plan P now turn
-      → (a : List ℕ) → Reads plan a → (n id : ℕ) (payload : List ℕ)
-      → now (receivedArea a n id payload)
-      ≡ replay turn (toldReception (receivedAnswer a n id payload) (numberFor n id (rowsOf plan)) payload) (now a)
-  unfolding toldReception replay
-  reception-turns {P} {now} {turn} u a reads n id payload =
-      by-answer a n id payload (λ x c. now c ≡ replay turn (toldReception x (numberFor n id (rowsOf plan)) payload) (now a)) other
-      (λ r f.
-      rw (number-named plan good n id (r .0) (row-named a reads n id payload r f))
-      (u .accepts a reads (r .0) payload (row-found plan good a reads n id payload r f)))
-    where
-      other : (x : Received) → (x ≡ Accepted → ⊥) → now a ≡ replay turn (toldReception x (numberFor n id (rowsOf plan)) payload) (now a)
-      other Accepted d = absurd (d refl)
-      other (NoRow place) d = refl
-      other TooShort d = refl
-      other (Refused why) d = refl
+  module _ (r : ℕ) (payload : List ℕ) (h : r < length (rowsOf plan)) where
+    pub accepted-turns : now (acceptedArea a r payload) ≡ turn (now a) (accepted r payload)
+    unfolding acceptedArea
+    accepted-turns = u .accepts a _ reads r payload h (again-restarted a r (omega (arith, good .counts .rx)))
+
+    pub responded-turns : now (respondedWith a r payload) ≡ turn (now a) (accepted r payload)
+    unfolding respondedWith
+    responded-turns = u .accepts a _ reads r payload h (again-long a r (omega (arith, good .counts .rx)))
+
+  -- ---- the calls
+
+  module _ (n id : ℕ) where
+    abbrev number : ℕ
+    number = numberFor n id (rowsOf plan)
+
+    pub reception-turns :
+        (payload : List ℕ)
+        → now (receivedArea a n id payload)
+        ≡ replay turn (toldReception (receivedAnswer a n id payload) (numberFor n id (rowsOf plan)) payload) (now a)
+    unfolding toldReception replay
+    reception-turns payload =
+        by-reception plan good a reads n id payload (λ x c. now c ≡ replay turn (toldReception x number payload) (now a)) other
+        (λ r x. rw (number-named plan good n id r x) (accepted-turns r payload (x .exists)))
+      where
+        other : (x : Received) → (x ≡ Accepted → ⊥) → now a ≡ replay turn (toldReception x number payload) (now a)
+        other Accepted d = absurd (d refl)
+        other (NoRow place) d = refl
+        other TooShort d = refl
+        other (Refused why) d = refl
+
+    pub response-turns :
+        (payload : List ℕ) (sum : ℕ)
+        → now (respondedArea a n id payload sum)
+        ≡ replay turn (toldResponse (respondedAnswer a n id payload sum) (numberFor n id (rowsOf plan)) payload) (now a)
+    unfolding toldResponse replay
+    response-turns payload sum =
+        by-response plan good a reads n id payload sum (λ x c. now c ≡ replay turn (toldResponse x number payload) (now a)) other
+        (λ r x. rw (number-named plan good n id r x) (responded-turns r payload (x .exists)))
+      where
+        other : (x : Responded) → (x ≡ responded.Accepted → ⊥) → now a ≡ replay turn (toldResponse x number payload) (now a)
+        other responded.Accepted d = absurd (d refl)
+        other responded.TooShort d = refl
+        other responded.WrongSum d = refl
+        other (responded.Refused why) d = refl
+
+    -- long or short, it is an expiry
+    pub silence-turns : now (silentArea a n id) ≡ replay turn (toldSilence (silentAnswer a n id) (numberFor n id (rowsOf plan))) (now a)
+    unfolding toldSilence replay
+    silence-turns =
+        by-silence plan good a reads n id (λ x c. now c ≡ replay turn (toldSilence x number) (now a)) (λ why. refl)
+        (λ r x.
+        let turns = u .expires a reads r (x .exists) in
+        rw (number-named plan good n id r x)
+        (both (λ (y : Silence). now (expiredArea a r) ≡ replay turn (toldSilence y r) (now a)) (eqb (byteAt a (long r)) 1) silence.Long silence.Short
+        turns turns))

@@ -1,4 +1,4 @@
--- A plan's rows: the claims of each are among the plan's and have its number, and a node and an ID name one of them.
+-- A plan's rows: the claims of each are among the plan's and have its number, and a node and an ID name one of them, which a lookup finds.
 use mathlib.Core.Path.{_≡_, refl, sym, ap, subst}
 use mathlib.Core.List.{List, [], _∷_}
 use mathlib.Core.Option.{Option, none, some}
@@ -7,7 +7,10 @@ use native.Mathlib.Omega.{arith}
 use lib.ListN.{length, getD}
 use borrow.Author.Tests.{eq-eqb}
 use Rattle.base.specs.Pick.{pick}
+use Rattle.base.specs.Numbers.{byteAt}
 use Rattle.base.proofs.Picks.{by-eqb}
+use Rattle.base.proofs.Ranges.{at-most-le}
+use Rattle.records.specs.declared.record.RxNumber.{RxNumber}
 use Rattle.records.specs.declared.record.Record.{Record}
 use Rattle.records.specs.Records.{records}
 use Rattle.records.proofs.Variants.{by-rx, by-row}
@@ -15,7 +18,13 @@ use Rattle.plan.specs.Progress.{keyOf}
 use Rattle.plan.specs.Rows.{Claim, Row, withFailure, claimsFrom, awaited, rowOf, rowsFrom, rowsOf, noRow}
 use Rattle.facts.specs.Good.{Each, Rising, GoodPlan}
 use Rattle.facts.proofs.Lists.{each-at}
+use Rattle.facts.proofs.FactsGood.{facts-good}
+use Rattle.area.specs.Layout.{nodeCountByte, nodeCount}
+use Rattle.reception.specs.declared.lookup.Found.the-variants.{At}
+use Rattle.reception.specs.Lookup.{lookedUp}
+use Rattle.tables.specs.Reads.{Reads}
 use Rattle.tables.specs.Statements.{Names}
+use Rattle.tables.proofs.Lookup.{lookup-finds}
 use Rattle.history.specs.Past.{numberFor}
 
 -- ---- numbers
@@ -68,3 +77,9 @@ first-named n id (x ∷ rs) h d (suc r) l e i =
 
 pub number-named : (plan : List ℕ) → GoodPlan plan → (n id r : ℕ) → Names plan n id r → numberFor n id (rowsOf plan) ≡ r
 number-named plan good n id r h = first-named n id (rowsOf plan) (good .rising) noRow r (h .exists) (h .node) (h .id)
+
+pub row-named :
+    (plan : List ℕ) → GoodPlan plan → (a : List ℕ) → Reads plan a → (n id : ℕ) → n < nodeCount a → (r : RxNumber) → lookedUp a n id ≡ At r
+    → Names plan n id (r .0)
+row-named plan good a reads n id known r e =
+    lookup-finds plan a _ _ _ (facts-good plan good) reads n id (omega (arith, known, at-most-le 16 (byteAt a nodeCountByte))) .found r e

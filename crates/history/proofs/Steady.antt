@@ -9,7 +9,7 @@ use Rattle.base.proofs.Ranges.{at-most-le}
 use Rattle.area.specs.Layout.{counterByte, txCountBytes, rxCountBytes, queuesStart, txReloadsStart, txTimersStart, longStart, fullStart, entriesStart}
 use Rattle.area.specs.Layout.{txMasksStart, node, queue, txReload, rxReload, long, full, key, txMask, rxMask, firstRow, rowCount}
 use Rattle.area.proofs.Frame.{Same, same-two, same-fewer}
-use Rattle.area.proofs.Kept.{Planned, Kept, in-header, in-tables, marked-kept, order-kept, nodeCount-kept, txCount-kept, rxCount-kept}
+use Rattle.area.proofs.Kept.{Planned, Kept, in-header, in-tables, marked-kept, order-kept, nodeCount-kept, typeOn-kept, txCount-kept, rxCount-kept}
 use Rattle.area.proofs.Kept.{start-kept, room-kept, planOf-kept, txFrame-kept, rxFrame-kept, claims-kept}
 use Rattle.tables.specs.Reads.{Header, TxTable, RxTable, NodeTable, Rings, Reads}
 use Rattle.history.proofs.Aside.{Aside}
@@ -82,6 +82,7 @@ module _ {a b : List ℕ} (s : Same Steady a b) where
           holds = planOf-kept kept-steady ∙ h .holds;
           order = order-kept kept-steady ∙ h .order;
           nodes = nodeCount-kept kept-steady ∙ h .nodes;
+          types = λ n l. typeOn-kept kept-steady n ∙ h .types n l;
           tx = txCount-kept kept-steady ∙ h .tx;
           rx = rxCount-kept kept-steady ∙ h .rx;
         }

@@ -1,6 +1,5 @@
 -- A tick turns a number that goes by the events (`Turns`) by the expiries that its report tells, and by nothing else.
 use mathlib.Core.Path.{_≡_, refl, sym, ap, _∙_}
-use mathlib.Core.Bool.{Bool, true, false}
 use mathlib.Core.List.{List, [], _∷_, _++_}
 use Prim.Native.Nat.{ℕ, zero, suc, _+_, _<_, _≤_}
 use native.Mathlib.Nat.{zero-add, add-zero}
@@ -19,13 +18,15 @@ use Rattle.answers.specs.declared.Ticked.{Ticked}
 use Rattle.area.specs.Layout.{txCountBytes, rxReload, rxTimer, long, rxMask, counter, txCount, rxCount}
 use Rattle.area.specs.Claims.{RxEvent, expired}
 use Rattle.area.proofs.Frame.{same-refl, same-set}
-use Rattle.ticking.specs.Tick.{timed, txTicks, expiredArea, expiredReport, rxTick, rxReport, rxTicks, reported}
+use Rattle.ticking.specs.Tick.{timed, txTicks, expiredArea, expiredReport, rxOnLin, rxExpiry, expiryReport, rxTick, rxReport, rxTicks, reported}
 use Rattle.clock.specs.Counter.{noCommonBit}
 use Rattle.ticking.specs.Tick.{ticked, tickAnswer, tickedArea, tickedReport}
 use Rattle.ticking.proofs.TickLaws.{length-reported, byte-reported}
+use Rattle.ticking.proofs.Apart.{report-apart}
 use Rattle.tables.specs.Reads.{Reads}
 use Rattle.history.specs.Past.{toldReport, toldTick}
-use Rattle.history.proofs.Aside.{aside-timed, aside-txTicks}
+use Rattle.history.proofs.Pairs.{pairs}
+use Rattle.history.proofs.Aside.{aside-timed, aside-requested, aside-txTicks}
 use Rattle.history.proofs.Steady.{steady-aside, reads-steady}
 use Rattle.history.proofs.Later.{steady-rxTicks}
 use Rattle.history.proofs.Replay.{replay, replay-append}
@@ -56,30 +57,33 @@ report-leaves turn r (x ∷ xs) leaves v =
     let more = report-leaves turn (suc r) xs (λ q u l m. leaves q u (omega arith) (omega arith)) in
     both (λ (log : List RxEvent). replay turn log v ≡ v) (eqb x 0) _ _ (more v) (more (turn v (expired r)) ∙ leaves r v (omega arith) (omega arith))
 
--- what a test chooses for the area and for the report
-pairs :
-    (P : List ℕ → ℕ → Type 0) (t : Bool) (x y : List ℕ) (u v : ℕ) → P x u → P y v → P (pick t x y) (pick t u v)
-unfolding pick
-pairs P true x y u v p q = p
-pairs P false x y u v p q = q
-
 module _ {plan : List ℕ} (good : GoodPlan plan) {P : ℕ → Type 0} {now : List ℕ → ℕ} {turn : ℕ → RxEvent → ℕ} (u : Turns plan P now turn) where
   -- ---- one Rx timer
+
+  -- its expiry: the byte of a request is 0 and tells nothing
+  expiry-turns : (a : List ℕ) → Reads plan a → (r : ℕ) → r < length (rowsOf plan)
+      → now (rxExpiry a r) ≡ replay turn (toldReport r (expiryReport a r ∷ [])) (now a)
+  unfolding rxExpiry expiryReport expiredReport toldReport replay pick
+  expiry-turns a reads r h =
+      let Q : List ℕ → ℕ → Type 0 = λ x y. now x ≡ replay turn (toldReport r (y ∷ [])) (now a) in
+      let turns = u .expires a reads r h in
+      pairs Q (rxOnLin a r) (λ e. u .same _ _ (aside-requested (u .aside) a r (omega (arith, good .counts .rx))))
+      (λ e. both (Q (expiredArea a r)) (eqb (byteAt a (long r)) 1) 2 1 turns turns)
 
   row-ticks :
       (k : ℕ) (a : List ℕ) → Reads plan a → (r : ℕ) → r < length (rowsOf plan)
       → now (rxTick k a r) ≡ replay turn (toldReport r (rxReport k a r ∷ [])) (now a)
-  unfolding rxTick rxReport expiredReport toldReport replay pick
+  unfolding rxTick rxReport toldReport replay pick
   row-ticks k a reads r h =
       let Q : List ℕ → ℕ → Type 0 = λ x y. now x ≡ replay turn (toldReport r (y ∷ [])) (now a) in
       let l : r < 256 = omega (arith, good .counts .rx) in
+      let b = timed a (rxReload r) (rxTimer r) in
       let stays = u .same _ _ (aside-timed (u .aside) a (rxReload r) (rxTimer r) (omega arith) (omega arith)) in
       let s = aside-timed steady-aside a (rxReload r) (rxTimer r) (omega arith) (omega arith) in
-      let turns = u .expires (timed a (rxReload r) (rxTimer r)) (reads-steady s reads) r h ∙ ap (λ (v : ℕ). turn v (expired r)) stays in
-      pairs Q (noCommonBit k (byteAt a (rxMask r))) _ _ _ _
-      (pairs Q (eqb (byteAt a (rxTimer r)) 1) _ _ _ _
-      (both (λ (y : ℕ). Q (expiredArea (timed a (rxReload r) (rxTimer r)) r) y) (eqb (byteAt a (long r)) 1) 2 1 turns turns) stays)
-      refl
+      let byte : expiryReport b r ≡ expiryReport a r = unfold timed in report-apart (rxTimer r) _ (omega arith) (omega arith) a r l in
+      let told : List RxEvent = toldReport r (expiryReport b r ∷ []) in
+      let turns : Q (rxExpiry b r) (expiryReport b r) = expiry-turns b (reads-steady s reads) r h ∙ ap (replay turn told) stays in
+      pairs Q (noCommonBit k (byteAt a (rxMask r))) (λ e. pairs Q (eqb (byteAt a (rxTimer r)) 1) (λ f. rw byte at turns) (λ f. stays)) (λ e. refl)
 
   -- ---- the first n, of which xs tells
 

@@ -10,9 +10,13 @@ use lib.ListN.{length, getD}
 use Rattle.base.specs.Pick.{pick}
 use Rattle.plan.specs.Rows.{rowsOf}
 use Rattle.area.specs.Claims.{RxEvent, accepted, expired}
+use Rattle.answers.specs.declared.Refusal.{Refusal}
+use Rattle.answers.specs.declared.Silence.{Silence}
+use Rattle.answers.specs.declared.Silence.the-variants.{Long, Refused}
 use Rattle.answers.specs.declared.Ticked.the-variants.{Done}
 use Rattle.tables.specs.Reads.{rowAt}
-use Rattle.model.specs.Calls.{Step, tick, ticked}
+use Rattle.tables.specs.Statements.{Names}
+use Rattle.model.specs.Calls.{Step, noResponse, silent, tick, ticked}
 use Rattle.history.specs.Calls.{answerIn, afterIn}
 use Rattle.history.specs.Past.{pastOf}
 
@@ -41,3 +45,15 @@ LongTimeouts =
     (a : List ℕ) (calls : List Step) (plan : List ℕ) → pastOf calls a .plan ≡ some plan → (report given : List ℕ)
     → answerIn (afterIn a calls) (tick report) ≡ ticked Done given → (r : ℕ) → r < length (rowsOf plan)
     → Tells (rowAt plan r .frame .long) (inARow r 0 (pastOf calls a .log)) (getD given r 0)
+
+-- and "no response", which "answers 1 or 2 as the report would" (document 02, Ticket 2): 2 exactly if the long count is above 0 and the expiries in a
+-- row, this one among them, are a multiple of it
+pub record TellsSilence (long n : ℕ) (x : Silence) : Type 0 where
+  pub exactly : (x ≡ Long) ↔ ((0 < long) × Multiple (suc n) long)
+  pub few : suc n < long → x ≢ Long
+
+abbrev pub LongSilences : Type 0
+LongSilences =
+    (a : List ℕ) (calls : List Step) (plan : List ℕ) → pastOf calls a .plan ≡ some plan → (n id r : ℕ) (x : Silence) → Names plan n id r
+    → answerIn (afterIn a calls) (noResponse n id) ≡ silent x → ((why : Refusal) → x ≢ Refused why)
+    → TellsSilence (rowAt plan r .frame .long) (inARow r 0 (pastOf calls a .log)) x

@@ -1,6 +1,7 @@
 -- Demand 3: "Over any calls since the last successful opening, every kept payload bit equals the bit worked out afresh from the history." The
 -- calls are any, on any area, openings among them, good and refused.
 use mathlib.Core.Path.{_≡_}
+use mathlib.Core.Logic.{_≢_}
 use mathlib.Core.List.{List}
 use mathlib.Core.Option.{some}
 use Prim.Native.Nat.{ℕ, _<_}
@@ -11,8 +12,8 @@ use Rattle.plan.specs.Rows.{txOf, orderIn}
 use Rattle.area.specs.Layout.{spot}
 use Rattle.tables.specs.Statements.{Names}
 use Rattle.tables.specs.Reads.{Reads}
-use Rattle.model.specs.Calls.{Step, reception, tick, take, fullness, call}
-use Rattle.history.specs.Calls.{areaAfter, stepped, afterIn}
+use Rattle.model.specs.Calls.{Step, reception, response, noResponse, tick, take, fullness, call}
+use Rattle.history.specs.Calls.{stepped, afterIn}
 use Rattle.history.specs.Past.{pastOf}
 use Rattle.history.specs.Fresh.{Owner, nobody, signal, indicator, owner, fresh}
 
@@ -29,7 +30,8 @@ EveryBitFresh =
 abbrev pub PlanStays : Type 0
 PlanStays = (a : List ℕ) (calls : List Step) (plan : List ℕ) → pastOf calls a .plan ≡ some plan → Reads plan (afterIn a calls)
 
--- ---- "A reception alters only bits owned by its frame, a tick only failure bits, a take none."
+-- ---- "A reception alters only bits owned by its frame, a tick only failure bits, a take none.": so does a response, and "no response" only its frame's
+-- failure bit
 
 -- a bit that Rx frame r owns, as a signal's or as its failure bit
 unfoldable pub OwnedBy : ℕ → Owner → Type 0
@@ -46,6 +48,10 @@ IsIndicator (indicator r) = Unit {0}
 pub record OnlyTheirs (plan a : List ℕ) (t b : ℕ) : Type 0 where
   pub reception : (n id : ℕ) (payload : List ℕ) → ((r : ℕ) → Names plan n id r → OwnedBy r (owner plan t b) → ⊥)
       → keptBit plan (stepped a (call (reception n id payload))) t b ≡ keptBit plan a t b
+  pub response : (n id : ℕ) (payload : List ℕ) (sum : ℕ) → ((r : ℕ) → Names plan n id r → OwnedBy r (owner plan t b) → ⊥)
+      → keptBit plan (stepped a (call (response n id payload sum))) t b ≡ keptBit plan a t b
+  pub noResponse : (n id : ℕ) → ((r : ℕ) → Names plan n id r → owner plan t b ≢ indicator r)
+      → keptBit plan (stepped a (call (noResponse n id))) t b ≡ keptBit plan a t b
   pub tick : (report : List ℕ) → (IsIndicator (owner plan t b) → ⊥) → keptBit plan (stepped a (call (tick report))) t b ≡ keptBit plan a t b
   pub take : (n : ℕ) → keptBit plan (stepped a (call (take n))) t b ≡ keptBit plan a t b
   pub fullness : (x : ℕ) → keptBit plan (stepped a (call (fullness x))) t b ≡ keptBit plan a t b

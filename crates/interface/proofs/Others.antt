@@ -1,4 +1,4 @@
--- The structs of a reception and a fullness, and the number of a tick, give back the answer: no two answers of such a call are the same to C.
+-- The structs of a reception and a fullness, and the numbers of the other calls, give back the answer: no two answers of such a call are the same to C.
 use mathlib.Core.Path.{_≡_, refl}
 use mathlib.Core.List.{List}
 use Prim.Native.Nat.{ℕ, _%_, _≤_, _<_}
@@ -10,22 +10,28 @@ use Rattle.base.proofs.Picks.{both}
 use Rattle.base.proofs.Ranges.{at-most-le}
 use Rattle.area.specs.Layout.{full}
 use Rattle.answers.specs.declared.Refusal.{Refusal}
-use Rattle.answers.specs.declared.Refusal.the-variants.{NotOpen, NoNode, LongPayload, NoFrame}
+use Rattle.answers.specs.declared.Refusal.the-variants.{NotOpen, NoNode, LongPayload, NoFrame, WrongCall}
 use Rattle.answers.specs.declared.Received.{Received}
 use Rattle.answers.specs.declared.Received.the-variants as received
+use Rattle.answers.specs.declared.Responded.{Responded}
+use Rattle.answers.specs.declared.Responded.the-variants as responded
+use Rattle.answers.specs.declared.Silence.{Silence}
+use Rattle.answers.specs.declared.Silence.the-variants as silence
 use Rattle.answers.specs.declared.Ticked.{Ticked}
 use Rattle.answers.specs.declared.Ticked.the-variants as ticked
 use Rattle.answers.specs.declared.Fullness.{Fullness}
 use Rattle.answers.specs.declared.Fullness.the-variants as fullness
-use Rattle.answers.specs.Answers.{refusalNumber, receivedNumber}
+use Rattle.answers.specs.Answers.{refusalNumber, receivedNumber, respondedNumber, silenceNumber}
 use Rattle.reception.specs.declared.lookup.Found.{Found}
 use Rattle.reception.specs.declared.lookup.Found.the-variants.{At, Nothing}
 use Rattle.reception.specs.Lookup.{lookedUp}
 use Rattle.reception.specs.Reception.{foundAnswer, receivedAnswer}
 use Rattle.reception.proofs.Search.{place-small}
+use Rattle.polling.specs.Polling.{polled, rowAnswer, polledAnswer, respondedAnswer, silentAnswer}
+use Rattle.polling.specs.Polling as polling
 use Rattle.taking.specs.Taken.{fullnessAnswer}
 use Rattle.interface.specs.Structs.{receivedStruct, tickedNumber, fullnessStruct}
-use Rattle.interface.specs.Back.{receivedOf, tickedOf, fullnessOf}
+use Rattle.interface.specs.Back.{receivedOf, respondedOf, silenceOf, tickedOf, fullnessOf}
 use Rattle.interface.proofs.Numbers.{numbered}
 
 -- ---- reception: its refusals are above its answers 0, 1 and 2
@@ -60,9 +66,71 @@ unfolding receivedAnswer refusalNumber
 received-back a n id payload =
     both ReceivedBack _ _ _
     (both ReceivedBack _ _ _
-    (both ReceivedBack _ _ _ (found-back a n id payload) (received-refused LongPayload (omega arith)))
+    (both ReceivedBack _ _ _ (received-refused WrongCall (omega arith))
+    (both ReceivedBack _ _ _ (found-back a n id payload) (received-refused LongPayload (omega arith))))
     (received-refused NoNode (omega arith)))
     (received-refused NotOpen (omega arith))
+
+-- ---- a response: its refusals are above its answers 0, 2 and 3
+
+abbrev RespondedBack : Responded → Type 0
+RespondedBack x = respondedOf (respondedNumber x) ≡ x
+
+responded-refused : (why : Refusal) → 4 ≤ refusalNumber why → RespondedBack (responded.Refused why)
+unfolding respondedOf respondedNumber pick
+responded-refused why l =
+    let k = refusalNumber why in
+    rw (ne-eqb k 0 (omega arith), ne-eqb k 2 (omega arith), ne-eqb k 3 (omega arith), numbered why .back)
+
+responses-back : RespondedBack responded.Accepted × RespondedBack responded.TooShort × RespondedBack responded.WrongSum
+unfolding respondedOf respondedNumber pick
+responses-back = (refl, refl, refl)
+
+row-back : (a : List ℕ) (r id : ℕ) (payload : List ℕ) (sum : ℕ) → RespondedBack (rowAnswer a r id payload sum)
+unfolding rowAnswer
+row-back a r id payload sum =
+    both RespondedBack _ _ _ (responses-back .1) (both RespondedBack _ _ _ (responses-back .0) (responses-back .2))
+
+polled-back : (a : List ℕ) (f : Found) (id : ℕ) (payload : List ℕ) (sum : ℕ) → RespondedBack (polledAnswer a f id payload sum)
+unfolding polledAnswer refusalNumber
+polled-back a (Nothing place) id payload sum = responded-refused WrongCall (omega arith)
+polled-back a (At r) id payload sum = both RespondedBack _ _ _ (row-back a _ id payload sum) (responded-refused LongPayload (omega arith))
+
+pub responded-back :
+    (a : List ℕ) (n id : ℕ) (payload : List ℕ) (sum : ℕ)
+    → respondedOf (respondedNumber (respondedAnswer a n id payload sum)) ≡ respondedAnswer a n id payload sum
+unfolding respondedAnswer refusalNumber
+responded-back a n id payload sum =
+    both RespondedBack _ _ _
+    (both RespondedBack _ _ _ (polled-back a (polled a n id) id payload sum) (responded-refused NoNode (omega arith)))
+    (responded-refused NotOpen (omega arith))
+
+-- ---- "no response": its refusals are above its answers 1 and 2
+
+abbrev SilenceBack : Silence → Type 0
+SilenceBack x = silenceOf (silenceNumber x) ≡ x
+
+silence-refused : (why : Refusal) → 3 ≤ refusalNumber why → SilenceBack (silence.Refused why)
+unfolding silenceOf silenceNumber pick
+silence-refused why l =
+    let k = refusalNumber why in
+    rw (ne-eqb k 1 (omega arith), ne-eqb k 2 (omega arith), numbered why .back)
+
+timeouts-back : SilenceBack silence.Short × SilenceBack silence.Long
+unfolding silenceOf silenceNumber pick
+timeouts-back = (refl, refl)
+
+timeout-back : (a : List ℕ) (f : Found) → SilenceBack (polling.silenceOf a f)
+unfolding polling.silenceOf refusalNumber
+timeout-back a (Nothing place) = silence-refused WrongCall (omega arith)
+timeout-back a (At r) = both SilenceBack _ _ _ (timeouts-back .1) (timeouts-back .0)
+
+pub silence-back : (a : List ℕ) (n id : ℕ) → silenceOf (silenceNumber (silentAnswer a n id)) ≡ silentAnswer a n id
+unfolding silentAnswer refusalNumber
+silence-back a n id =
+    both SilenceBack _ _ _
+    (both SilenceBack _ _ _ (timeout-back a (polled a n id)) (silence-refused NoNode (omega arith)))
+    (silence-refused NotOpen (omega arith))
 
 -- ---- tick
 

@@ -67,13 +67,15 @@ check-low (r ∷ rs) p sizes sets e =
     (λ known. need-low _ _ _ _ _ n
     (λ whole. need-low _ _ _ _ _ n
     (λ stands. need-low _ _ _ _ _ n
+    (λ first. need-low _ _ _ _ _ n
     (λ room. need-low _ _ _ _ _ n
     (λ range. need-low _ _ _ _ _ n
+    (λ fits. need-low _ _ _ _ _ n
     (λ order. need-low _ _ _ _ _ n
     (λ inside. need-low _ _ _ _ _ n
     (λ free. need-low _ _ _ _ _ n
     (λ indicated. need-low _ _ _ _ _ n
-    (λ indicator. check-low rs (after p r) _ _ (early-after p r e known whole stands room))))))))))))
+    (λ indicator. check-low rs (after p r) _ _ (early-after p r e known whole stands room))))))))))))))
 
 pub plan-low : (plan : List ℕ) → Low (checkPlan plan)
 unfolding checkPlan start

@@ -7,17 +7,27 @@ use borrow.Author.Tests.{ne-eqb}
 use Rattle.base.specs.Pick.{pick}
 use Rattle.base.proofs.Picks.{both}
 use Rattle.bits.proofs.PayloadLaws.{Bytes}
-use Rattle.records.specs.Kinds.{txAt}
-use Rattle.area.specs.Layout.{queue, txRecordPlace, txFrame}
-use Rattle.area.specs.Queue.{endsOf, oldest}
+use Rattle.lin.proofs.Identifiers.{parity-bits}
+use Rattle.records.specs.declared.record.Entry.{Entry}
+use Rattle.records.specs.declared.record.Entry.the-variants as entry
+use Rattle.records.specs.Kinds.{txAt, rxAt}
+use Rattle.records.specs.Nodes.{isLin}
+use Rattle.area.specs.Layout.{waiterRange, queue, txRecordPlace, rxRecordPlace, txFrame, rxFrame, typeOn}
+use Rattle.area.specs.Queue.{endsOf, entryOf, oldest}
 use Rattle.area.proofs.NarrowLaws.{bytes-stored}
 use Rattle.answers.specs.declared.Refusal.{Refusal}
 use Rattle.answers.specs.declared.Refusal.the-variants.{NotOpen, NoNode}
+use Rattle.answers.specs.declared.Framing.{Framing}
+use Rattle.answers.specs.declared.Framing.the-variants.{Can, Lin}
+use Rattle.answers.specs.declared.TakenFrame.{TakenFrame}
+use Rattle.answers.specs.declared.TakenRequest.{TakenRequest}
 use Rattle.answers.specs.declared.Taken.{Taken}
-use Rattle.answers.specs.declared.Taken.the-variants.{Nothing, Frame, Refused}
+use Rattle.answers.specs.declared.Taken.the-variants.{Nothing, Frame, Request, Refused}
 use Rattle.answers.specs.Answers.{refusalNumber}
-use Rattle.taking.specs.Taken.{oldestAnswer, takenAnswer}
-use Rattle.interface.specs.Structs.{noFrame, takenStruct}
+use Rattle.taking.specs.Taken.{framingOf, entryAnswer, oldestAnswer, takenAnswer}
+use Rattle.taking.proofs.Entries.{frame-small, request-small}
+use Rattle.interface.specs.Structs.{nothingTaken, protectedIn, checksumIn, takenStruct}
+use Rattle.interface.specs.Back as back
 use Rattle.interface.specs.Back.{takenOf}
 use Rattle.interface.proofs.Numbers.{numbered}
 
@@ -25,45 +35,89 @@ abbrev Back : Taken → Type 0
 Back x = takenOf (takenStruct x) ≡ x
 
 nothing-back : Back Nothing
-unfolding takenOf takenStruct noFrame pick
+unfolding takenOf takenStruct nothingTaken pick
 nothing-back = refl
 
 refused-back : (why : Refusal) → Back (Refused why)
-unfolding takenOf takenStruct noFrame pick
+unfolding takenOf takenStruct nothingTaken pick
 refused-back why =
     let n = numbered why in
     rw (ne-eqb (refusalNumber why) 0 (omega arith), n .back)
 
-frame-back : (t id size waiting : ℕ) → t < 256 → id < 65536 → size < 16 → waiting < 65536 → Back (Frame (record { 0 = t }) id size waiting)
-unfolding takenOf takenStruct pick
-frame-back t id size waiting ht hi hs hw =
-    let et : t % 65536 ≡ t = omega arith in
-    let es : size % 65536 ≡ size = omega arith in
-    let ei : id % 4294967296 ≡ id = omega arith in
-    let ew : waiting % 65536 ≡ waiting = omega arith in
-    rw (et, es, ei, ew)
+-- a framing whose protected identifier, where it has one, is above 0
+unfoldable Told : Framing → Type 0
+Told Can = Unit {0}
+Told (Lin protected checksum) = 0 < protected
 
-oldest-small : (a : List ℕ) (n : ℕ) → oldest a n < 256
+frame-back : (x : TakenFrame) → x .tx .0 < 256 → x .id < 65536 → x .size < 16 → x .waiting < 65536 → Told (x .framing) → Back (Frame x)
+unfolding takenOf takenStruct back.framingOf protectedIn checksumIn pick Told
+frame-back x ht hi hs hw told = go (x .framing) refl told
+  where
+    et : x .tx .0 % 65536 ≡ x .tx .0
+    et = omega arith
+
+    es : x .size % 256 ≡ x .size
+    es = omega arith
+
+    ei : x .id % 4294967296 ≡ x .id
+    ei = omega arith
+
+    ew : x .waiting % 65536 ≡ x .waiting
+    ew = omega arith
+
+    go : (f : Framing) → x .framing ≡ f → Told f → Back (Frame x)
+    go Can e t = rw (et, es, ei, ew, e)
+    go (Lin protected checksum) e t = rw (et, es, ei, ew, e, ne-eqb protected 0 (omega arith))
+
+request-back : (x : TakenRequest) → x .rx .0 < 256 → x .id < 65536 → x .size < 256 → x .waiting < 65536 → Back (Request x)
+unfolding takenOf takenStruct pick
+request-back x hr hi hs hw =
+    let er : x .rx .0 % 65536 ≡ x .rx .0 = omega arith in
+    let es : x .size % 256 ≡ x .size = omega arith in
+    let ei : x .id % 4294967296 ≡ x .id = omega arith in
+    let ew : x .waiting % 65536 ≡ x .waiting = omega arith in
+    rw (er, es, ei, ew)
+
+-- what goes with a frame has a protected identifier above 0
+framing-told : (a : List ℕ) (n id : ℕ) (bytes : List ℕ) → Told (framingOf a n id bytes)
+unfolding framingOf Told
+framing-told a n id bytes = both Told (isLin (typeOn a n)) _ _ (parity-bits .above id) tt
+
+oldest-small : (a : List ℕ) (n : ℕ) → oldest a n < waiterRange
 unfolding oldest
 oldest-small a n = omega arith
 
--- an ID and a waiting count are two bytes of the area each
-id-small : (a : List ℕ) (t : ℕ) → Bytes a → txFrame a t .id < 65536
+-- an ID and a waiting count are two bytes of the area each, a size is one
+tx-id-small : (a : List ℕ) (t : ℕ) → Bytes a → txFrame a t .id < 65536
 unfolding txFrame txAt
-id-small a t b =
+tx-id-small a t b =
     let s = bytes-stored a b in
     let at = txRecordPlace a t + 2 in
     omega (arith, s at, s (at + 1))
+
+rx-small : (a : List ℕ) (r : ℕ) → Bytes a → (rxFrame a r .id < 65536) × (rxFrame a r .size < 256)
+unfolding rxFrame rxAt
+rx-small a r b =
+    let s = bytes-stored a b in
+    let at = rxRecordPlace a r in
+    (omega (arith, s (at + 2), s (at + 2 + 1)), s (at + 4))
 
 waiting-small : (a : List ℕ) (n : ℕ) → Bytes a → endsOf a n .waiting < 65536
 unfolding endsOf
 waiting-small a n b = omega (arith, b (queue n + 6), b (queue n + 6 + 1))
 
+entry-back : (a : List ℕ) (n waiting : ℕ) → Bytes a → waiting < 65536 → Back (entryAnswer a n (entryOf (oldest a n)) waiting)
+entry-back a n waiting b l = go (entryOf (oldest a n)) refl
+  where
+    go : (x : Entry) → entryOf (oldest a n) ≡ x → Back (entryAnswer a n x waiting)
+    go (entry.Frame t) e = unfold entryAnswer in
+        frame-back _ (frame-small (oldest a n) t e) (tx-id-small a (t .0) b) (omega arith) l (framing-told a n _ _)
+    go (entry.Request r) e = unfold entryAnswer in
+        request-back _ (request-small (oldest a n) r (oldest-small a n) e) (rx-small a (r .0) b .0) (rx-small a (r .0) b .1) l
+
 oldest-back : (a : List ℕ) (n : ℕ) → Bytes a → Back (oldestAnswer a n)
 unfolding oldestAnswer
-oldest-back a n b =
-    both Back _ _ _ nothing-back
-    (frame-back _ _ _ _ (oldest-small a n) (id-small a (oldest a n) b) (omega arith) (omega (arith, waiting-small a n b)))
+oldest-back a n b = both Back _ _ _ nothing-back (entry-back a n _ b (omega (arith, waiting-small a n b)))
 
 pub taken-back : (a : List ℕ) (n : ℕ) → Bytes a → takenOf (takenStruct (takenAnswer a n)) ≡ takenAnswer a n
 unfolding takenAnswer

@@ -10,6 +10,8 @@ use Rattle.answers.specs.declared.Received.{Received}
 use Rattle.answers.specs.declared.Received.the-variants as received
 use Rattle.answers.specs.declared.Ticked.{Ticked}
 use Rattle.answers.specs.declared.Ticked.the-variants as ticked
+use Rattle.answers.specs.declared.Framing.{Framing}
+use Rattle.answers.specs.declared.Framing.the-variants.{Can, Lin}
 use Rattle.answers.specs.declared.Taken.{Taken}
 use Rattle.answers.specs.declared.Taken.the-variants as taken
 use Rattle.answers.specs.declared.Fullness.{Fullness}
@@ -38,15 +40,47 @@ unfoldable pub tickedNumber : Ticked → ℕ
 tickedNumber ticked.Done = 0
 tickedNumber (ticked.Refused why) = refusalNumber why
 
--- kind 1 says that there is a frame, and 0 that there is none: none waits, or the take was refused
-unfoldable pub noFrame : ℕ → GatewayTaken
-noFrame number = record { number = number; kind = 0; tx = 0; size = 0; id = 0; waiting = 0 }
+-- kind 1 is a frame, 2 a request; 0 says that there is neither: nothing waits, or the take was refused
+unfoldable pub nothingTaken : ℕ → GatewayTaken
+nothingTaken number =
+    record { number = number; kind = 0; size = 0; tx = 0; rx = 0; id = 0; waiting = 0; «protected_id» = 0; checksum = 0 }
+
+-- the protected identifier and the checksum, which a frame on CAN has not
+unfoldable pub protectedIn : Framing → ℕ
+protectedIn Can = 0
+protectedIn (Lin protected checksum) = protected
+
+unfoldable pub checksumIn : Framing → ℕ
+checksumIn Can = 0
+checksumIn (Lin protected checksum) = checksum
 
 unfoldable pub takenStruct : Taken → GatewayTaken
-takenStruct taken.Nothing = noFrame 0
-takenStruct (taken.Frame t id size waiting) =
-    record { number = 0; kind = 1; tx = t .0 % 65536; size = size % 65536; id = id % 4294967296; waiting = waiting % 65536 }
-takenStruct (taken.Refused why) = noFrame (refusalNumber why)
+takenStruct taken.Nothing = nothingTaken 0
+takenStruct (taken.Frame x) =
+    record {
+      number = 0;
+      kind = 1;
+      size = x .size % 256;
+      tx = x .tx .0 % 65536;
+      rx = 0;
+      id = x .id % 4294967296;
+      waiting = x .waiting % 65536;
+      «protected_id» = protectedIn (x .framing);
+      checksum = checksumIn (x .framing);
+    }
+takenStruct (taken.Request x) =
+    record {
+      number = 0;
+      kind = 2;
+      size = x .size % 256;
+      tx = 0;
+      rx = x .rx .0 % 65536;
+      id = x .id % 4294967296;
+      waiting = x .waiting % 65536;
+      «protected_id» = x .protected;
+      checksum = 0;
+    }
+takenStruct (taken.Refused why) = nothingTaken (refusalNumber why)
 
 unfoldable pub fullnessStruct : Fullness → GatewayFullness
 fullnessStruct (fullness.Owned n) = record { number = 0; bits = n % 65536 }
@@ -57,6 +91,7 @@ noPart = record { at = 0; size = 0 }
 
 -- the payload of what was taken, as a part of an area of n bytes: where it begins, and its size
 unfoldable pub payloadStruct : ℕ → Taken → GatewayPayload
-payloadStruct n (taken.Frame t id size waiting) = pick (longEnough n) (record { at = payload (t .0 % 256); size = inWidth size }) noPart
+payloadStruct n (taken.Frame x) = pick (longEnough n) (record { at = payload (x .tx .0 % 256); size = inWidth (x .size) }) noPart
+payloadStruct n (taken.Request x) = noPart
 payloadStruct n taken.Nothing = noPart
 payloadStruct n (taken.Refused why) = noPart

@@ -10,9 +10,13 @@ use crate::structs::fullness_struct;
 use crate::structs::opened_struct;
 use crate::structs::payload_struct;
 use crate::structs::received_struct;
+use crate::structs::responded_number;
+use crate::structs::silence_number;
 use crate::structs::taken_struct;
 use crate::structs::ticked_number;
 use opening::open::open;
+use polling::respond::respond;
+use polling::silence::no_response;
 use reception::receive::receive;
 use taking::fullness;
 use taking::take;
@@ -21,8 +25,10 @@ ghost use mathlib.Core.Path.{_≡_};
 ghost use Prim.Native.Nat.{_+_, _≤_};
 ghost use lib.ListN.{length, take, drop};
 ghost use Rattle.plan.specs.Check.{checkPlan};
+ghost use Rattle.answers.specs.Answers.{respondedNumber, silenceNumber};
 ghost use Rattle.opening.specs.Opened.{openedAnswer, openedArea};
 ghost use Rattle.reception.specs.Reception.{receivedAnswer, receivedArea};
+ghost use Rattle.polling.specs.Polling.{respondedAnswer, respondedArea, silentAnswer, silentArea};
 ghost use Rattle.ticking.specs.Tick.{tickAnswer, tickedArea, tickedReport};
 ghost use Rattle.taking.specs.Taken.{takenAnswer, takenArea, takenPayload, fullnessAnswer};
 ghost use Rattle.interface.specs.Structs.{openedStruct, receivedStruct, tickedNumber, takenStruct, payloadStruct, fullnessStruct};
@@ -38,7 +44,7 @@ pub extern "C" fn gateway_open(plan: &[u8], area: &mut [u8]) -> GatewayOpened
     opened_struct(open(plan, area))
 }
 
-// A frame that a node received.
+// A frame that a CAN node received.
 #[no_mangle]
 pub extern "C" fn gateway_receive(
     area: &mut [u8],
@@ -52,6 +58,30 @@ pub extern "C" fn gateway_receive(
     received_struct(receive(area, node, id, payload))
 }
 
+// A response to a request on a LIN node, with its checksum.
+#[no_mangle]
+pub extern "C" fn gateway_respond(
+    area: &mut [u8],
+    node: usize,
+    id: u32,
+    payload: &[u8],
+    checksum: u8,
+) -> u16
+    ensures answer { λ r. ⌜ r ≡ respondedNumber (respondedAnswer (now (area .entry)) node id (now (payload .entry)) checksum) ⌝ }
+    ensures bytes { λ r. ⌜ now (area .exit) ≡ respondedArea (now (area .entry)) node id (now (payload .entry)) checksum ⌝ }
+{
+    responded_number(respond(area, node, id, payload, checksum))
+}
+
+// A request on a LIN node was not answered.
+#[no_mangle]
+pub extern "C" fn gateway_no_response(area: &mut [u8], node: usize, id: u32) -> u16
+    ensures answer { λ r. ⌜ r ≡ silenceNumber (silentAnswer (now (area .entry)) node id) ⌝ }
+    ensures bytes { λ r. ⌜ now (area .exit) ≡ silentArea (now (area .entry)) node id ⌝ }
+{
+    silence_number(no_response(area, node, id))
+}
+
 // One tick of the clock, with a byte of the report for each Rx frame.
 #[no_mangle]
 pub extern "C" fn gateway_tick(area: &mut [u8], report: &mut [u8]) -> u16
@@ -63,7 +93,7 @@ pub extern "C" fn gateway_tick(area: &mut [u8], report: &mut [u8]) -> u16
     ticked_number(tick(area, report))
 }
 
-// The oldest frame that waits on a node, which then waits no more.
+// The oldest frame or request that waits on a node, which then waits no more.
 #[no_mangle]
 pub extern "C" fn gateway_take(area: &mut [u8], node: usize) -> GatewayTaken
     ensures answer { λ r. ⌜ r ≡ takenStruct (takenAnswer (now (area .entry)) node) ⌝ }

@@ -1,8 +1,11 @@
 // What C is answered: a struct for each call, and how it is made of the call's answer. specs/Structs.antt says what stands in each field.
+use answers::Framing;
 use answers::Fullness;
 use answers::Opened;
 use answers::Received;
 use answers::Refusal;
+use answers::Responded;
+use answers::Silence;
 use answers::Taken;
 use answers::Ticked;
 use area::layout;
@@ -12,8 +15,9 @@ use base::at_most;
 use records::record::TxNumber;
 ghost use mathlib.Core.Path.{_≡_};
 ghost use Prim.Native.Nat.{_%_};
-ghost use Rattle.answers.specs.Answers.{refusalNumber};
-ghost use Rattle.interface.specs.Structs.{openedStruct, receivedStruct, tickedNumber, noFrame, takenStruct, payloadStruct, fullnessStruct};
+ghost use Rattle.answers.specs.Answers.{refusalNumber, respondedNumber, silenceNumber};
+ghost use Rattle.interface.specs.Structs.{openedStruct, receivedStruct, tickedNumber, payloadStruct, fullnessStruct};
+ghost use Rattle.interface.specs.Structs.{protectedIn, checksumIn, nothingTaken, takenStruct};
 ghost use Rattle.interface.specs.Back.{takenOf};
 
 #[repr(C)]
@@ -34,11 +38,14 @@ pub struct GatewayReceived {
 #[repr(C)]
 pub struct GatewayTaken {
     pub number: u16,
-    pub kind: u16,
+    pub kind: u8,
+    pub size: u8,
     pub tx: u16,
-    pub size: u16,
+    pub rx: u16,
     pub id: u32,
     pub waiting: u16,
+    pub protected_id: u8,
+    pub checksum: u8,
 }
 
 #[repr(C)]
@@ -121,17 +128,65 @@ pub fn ticked_number(answer: Ticked) -> u16
     }
 }
 
-// A take without a frame: none waits, or the take was refused.
-fn no_frame(number: u16) -> GatewayTaken
-    ensures { λ r. ⌜ r ≡ noFrame number ⌝ }
+pub fn responded_number(answer: Responded) -> u16
+    ensures { λ r. ⌜ r ≡ respondedNumber answer ⌝ }
+{
+    match answer {
+        Responded::Accepted => 0,
+        Responded::TooShort => 2,
+        Responded::WrongSum => 3,
+        Responded::Refused(why) => refusal_number(why),
+    }
+}
+
+pub fn silence_number(answer: Silence) -> u16
+    ensures { λ r. ⌜ r ≡ silenceNumber answer ⌝ }
+{
+    match answer {
+        Silence::Short => 1,
+        Silence::Long => 2,
+        Silence::Refused(why) => refusal_number(why),
+    }
+}
+
+// A take of neither a frame nor a request: nothing waits, or the take was refused.
+fn nothing_taken(number: u16) -> GatewayTaken
+    ensures { λ r. ⌜ r ≡ nothingTaken number ⌝ }
 {
     GatewayTaken {
         number,
         kind: 0,
-        tx: 0,
         size: 0,
+        tx: 0,
+        rx: 0,
         id: 0,
         waiting: 0,
+        protected_id: 0,
+        checksum: 0,
+    }
+}
+
+fn protected_in(framing: Framing) -> u8
+    ensures { λ r. ⌜ r ≡ protectedIn framing ⌝ }
+{
+    match framing {
+        Framing::Can => 0,
+        Framing::Lin {
+            protected,
+            checksum: _,
+        } => protected,
+    }
+}
+
+fn checksum_in(framing: Framing) -> u8
+    ensures { λ r. ⌜ r ≡ checksumIn framing ⌝ }
+{
+    match framing {
+        Framing::Can => 0,
+        Framing::Lin {
+            protected: _,
+            checksum,
+        } => checksum,
     }
 }
 
@@ -139,21 +194,33 @@ pub fn taken_struct(answer: Taken) -> GatewayTaken
     ensures { λ r. ⌜ r ≡ takenStruct answer ⌝ }
 {
     match answer {
-        Taken::Nothing => no_frame(0),
-        Taken::Frame {
-            tx,
-            id,
-            size,
-            waiting,
-        } => GatewayTaken {
+        Taken::Nothing => nothing_taken(0),
+        Taken::Frame(frame) => {
+            let framing = frame.framing;
+            GatewayTaken {
+                number: 0,
+                kind: 1,
+                size: (frame.size % 256) as u8,
+                tx: low(frame.tx.0),
+                rx: 0,
+                id: (frame.id % 4294967296) as u32,
+                waiting: low(frame.waiting),
+                protected_id: protected_in(framing),
+                checksum: checksum_in(framing),
+            }
+        }
+        Taken::Request(request) => GatewayTaken {
             number: 0,
-            kind: 1,
-            tx: low(tx.0),
-            size: low(size),
-            id: (id % 4294967296) as u32,
-            waiting: low(waiting),
+            kind: 2,
+            size: (request.size % 256) as u8,
+            tx: 0,
+            rx: low(request.rx.0),
+            id: (request.id % 4294967296) as u32,
+            waiting: low(request.waiting),
+            protected_id: request.protected,
+            checksum: 0,
         },
-        Taken::Refused(why) => no_frame(refusal_number(why)),
+        Taken::Refused(why) => nothing_taken(refusal_number(why)),
     }
 }
 

@@ -1,4 +1,5 @@
--- Numbers as text, and document 01's full listing: its thirteen lines from their answers, and its events from the input's bytes.
+-- Numbers as text; document 01's full listing: its thirteen lines from their answers, and its events from the input's bytes; and the lines and
+-- events that the listing has not.
 use mathlib.Core.Path.{_≡_, refl}
 use mathlib.Core.List.{List, [], _∷_, _++_}
 use Prim.Native.Nat.{ℕ}
@@ -6,16 +7,19 @@ use Rattle.base.specs.Pick.{pick}
 use Rattle.plan.specs.Refusals.{numberOf}
 use Rattle.plan.specs.declared.verdict.Reason.the-variants.{Indicator}
 use Rattle.records.proofs.ListingRecords.{listing}
-use Rattle.answers.specs.declared.Refusal.the-variants.{Plan, NotOpen, NoNode, LongPayload}
+use Rattle.answers.specs.declared.Refusal.the-variants.{Plan, NotOpen, NoNode, LongPayload, WrongCall}
 use Rattle.answers.specs.declared.Opened.the-variants as opened
 use Rattle.answers.specs.declared.Received.the-variants as received
+use Rattle.answers.specs.declared.Responded.the-variants as responded
+use Rattle.answers.specs.declared.Silence.the-variants as silence
 use Rattle.answers.specs.declared.Ticked.the-variants as ticked
+use Rattle.answers.specs.declared.Framing.the-variants.{Can, Lin}
 use Rattle.answers.specs.declared.Taken.the-variants as taken
-use Rattle.answers.specs.Answers.{refusalNumber, receivedNumber}
-use Rattle.events.specs.declared.Event.the-variants.{Reception, Tick, Take, Bad, End}
+use Rattle.answers.specs.Answers.{refusalNumber, receivedNumber, respondedNumber, silenceNumber}
+use Rattle.events.specs.declared.Event.the-variants.{Reception, Tick, Take, Response, NoResponse, Bad, End}
 use Rattle.events.specs.declared.Front.the-variants as front
 use Rattle.text.specs.Text.{ascii, glyph, decimalIn, decimal, hexByte, each, spaced}
-use Rattle.lines.specs.Lines.{wordLine, numbersLine, planLine, rxLine, tickLine, payloadText, frameLine, takeLine, badLine}
+use Rattle.lines.specs.Lines.{wordLine, numbersLine, planLine, rxLine, responseLine, silenceLine, tickLine, payloadText, frameLine, takeLine, badLine}
 use Rattle.events.specs.Events.{frontOf, eventLength, wholeEvent, eventAt, payloadAt}
 
 -- numbers
@@ -29,7 +33,7 @@ hex-cases = (refl, refl, refl)
 
 -- the listing, line by line
 abbrev frame : ℕ → List ℕ
-frame low = takeLine (taken.Frame (record { 0 = 0 }) 256 2 0) (0x02 ∷ low ∷ [])
+frame low = takeLine (taken.Frame (record { tx = record { 0 = 0 }; id = 256; size = 2; waiting = 0; framing = Can })) (0x02 ∷ low ∷ [])
 
 pub listing-lines :
     planLine (opened.Open 1 1 1)
@@ -63,7 +67,8 @@ pub listing-lines :
 unfolding planLine rxLine tickLine takeLine frameLine payloadText wordLine numbersLine receivedNumber each spaced decimal decimalIn hexByte glyph pick
 listing-lines = refl
 
--- the lines that the listing has not: other places of a frame without a row, refusals, an empty report, more than one report byte, a frame of size 0, bad input
+-- the lines that the listing has not: other places of a frame without a row, refusals, an empty report, more than one report byte, a frame of
+-- size 0, bad input
 pub other-lines :
     planLine (opened.Refused (Plan Indicator) 12)
     ∷ rxLine (received.NoRow 0)
@@ -73,7 +78,7 @@ pub other-lines :
     ∷ takeLine (taken.Refused NoNode) []
     ∷ tickLine ticked.Done []
     ∷ tickLine ticked.Done (0 ∷ 2 ∷ 1 ∷ [])
-    ∷ takeLine (taken.Frame (record { 0 = 255 }) 2047 0 3) []
+    ∷ takeLine (taken.Frame (record { tx = record { 0 = 255 }; id = 2047; size = 0; waiting = 3; framing = Can })) []
     ∷ badLine
     ∷ []
     ≡ ascii "plan refused 9 12\n"
@@ -87,9 +92,37 @@ pub other-lines :
     ∷ ascii "take 255 2047 0 - 3\n"
     ∷ ascii "input bad\n"
     ∷ []
-unfolding planLine rxLine tickLine takeLine frameLine payloadText badLine wordLine numbersLine refusalNumber numberOf receivedNumber each spaced decimal decimalIn
-    glyph pick
+unfolding planLine rxLine tickLine takeLine frameLine payloadText badLine wordLine numbersLine refusalNumber numberOf receivedNumber each spaced decimal
+    decimalIn glyph pick
 other-lines = refl
+
+-- the lines of a LIN node (document 02, Ticket 2)
+pub lin-lines :
+    responseLine responded.Accepted
+    ∷ responseLine responded.TooShort
+    ∷ responseLine responded.WrongSum
+    ∷ responseLine (responded.Refused WrongCall)
+    ∷ silenceLine silence.Short
+    ∷ silenceLine silence.Long
+    ∷ silenceLine (silence.Refused NoNode)
+    ∷ rxLine (received.Refused WrongCall)
+    ∷ takeLine (taken.Request (record { rx = record { 0 = 7 }; id = 59; size = 8; waiting = 2; protected = 0xfb })) []
+    ∷ takeLine (taken.Frame (record { tx = record { 0 = 1 }; id = 2; size = 1; waiting = 0; framing = Lin 0x42 0xab })) (0x12 ∷ [])
+    ∷ []
+    ≡ ascii "rx 0\n"
+    ∷ ascii "rx 2\n"
+    ∷ ascii "rx 3\n"
+    ∷ ascii "rx refused 16\n"
+    ∷ ascii "silent 1\n"
+    ∷ ascii "silent 2\n"
+    ∷ ascii "silent refused 12\n"
+    ∷ ascii "rx refused 16\n"
+    ∷ ascii "take request 7 59 8 2\n"
+    ∷ ascii "take 1 2 1 12 0\n"
+    ∷ []
+unfolding rxLine responseLine silenceLine takeLine frameLine payloadText numbersLine refusalNumber respondedNumber silenceNumber each spaced decimal
+    decimalIn hexByte glyph pick
+lin-lines = refl
 
 -- the listing's input: the plan's length, the plan, the events
 abbrev reception : ℕ → ℕ → ℕ → List ℕ
@@ -140,13 +173,29 @@ pub listing-payloads : payloadAt input 43 ∷ payloadAt input 92 ∷ [] ≡ (0x2
 unfolding payloadAt pick
 listing-payloads = refl
 
+-- the events of a LIN node, one behind the other, and the payload of the first
+abbrev linInput : List ℕ
+linInput = (20 ∷ 3 ∷ 0 ∷ 59 ∷ 2 ∷ 0xa1 ∷ 0xb2 ∷ 0 ∷ 0 ∷ 0 ∷ 0 ∷ 0 ∷ 0 ∷ 0x6d ∷ []) ++ (21 ∷ 4 ∷ 1 ∷ 2 ∷ [])
+
+pub lin-events : eventAt linInput 0 ∷ eventAt linInput 14 ∷ eventAt linInput 18 ∷ [] ≡ Response 3 59 2 0x6d ∷ NoResponse 4 258 ∷ End ∷ []
+unfolding eventAt wholeEvent eventLength pick
+lin-events = refl
+
+pub lin-payload : payloadAt linInput 0 ≡ 0xa1 ∷ 0xb2 ∷ []
+unfolding payloadAt pick
+lin-payload = refl
+
 -- a payload of nine bytes, events that are cut or unknown, and input that is too short
 pub bad-cases :
     (payloadAt (reception 0 9 1) 0 ≡ 0 ∷ 0 ∷ 0 ∷ 0 ∷ 0 ∷ 0 ∷ 0 ∷ 0 ∷ 0 ∷ [])
     × (eventAt (16 ∷ 0 ∷ []) 0 ≡ Bad)
     × (eventAt (18 ∷ []) 0 ≡ Bad)
     × (eventAt (19 ∷ 0 ∷ []) 0 ≡ Bad)
+    × (payloadAt (20 ∷ 0 ∷ 0 ∷ 0 ∷ 255 ∷ 1 ∷ 0 ∷ 0 ∷ 0 ∷ 0 ∷ 0 ∷ 0 ∷ 0 ∷ 0 ∷ []) 0 ≡ 0 ∷ 0 ∷ 0 ∷ 0 ∷ 0 ∷ 0 ∷ 0 ∷ 0 ∷ 0 ∷ [])
+    × (eventAt (20 ∷ 0 ∷ 0 ∷ 0 ∷ 0 ∷ 0 ∷ 0 ∷ 0 ∷ 0 ∷ 0 ∷ 0 ∷ 0 ∷ 0 ∷ []) 0 ≡ Bad)
+    × (eventAt (21 ∷ 0 ∷ 0 ∷ []) 0 ≡ Bad)
+    × (eventAt (22 ∷ 0 ∷ 0 ∷ []) 0 ≡ Bad)
     × (frontOf (0 ∷ []) ≡ front.Bad)
     × (frontOf (0 ∷ 2 ∷ 1 ∷ []) ≡ front.Bad)
 unfolding payloadAt eventAt wholeEvent eventLength frontOf pick
-bad-cases = (refl, refl, refl, refl, refl, refl)
+bad-cases = (refl, refl, refl, refl, refl, refl, refl, refl, refl, refl)

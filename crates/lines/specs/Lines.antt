@@ -8,11 +8,17 @@ use Rattle.answers.specs.declared.Opened.{Opened}
 use Rattle.answers.specs.declared.Opened.the-variants as opened
 use Rattle.answers.specs.declared.Received.{Received}
 use Rattle.answers.specs.declared.Received.the-variants as received
+use Rattle.answers.specs.declared.Responded.{Responded}
+use Rattle.answers.specs.declared.Responded.the-variants as responded
+use Rattle.answers.specs.declared.Silence.{Silence}
+use Rattle.answers.specs.declared.Silence.the-variants as silence
 use Rattle.answers.specs.declared.Ticked.{Ticked}
 use Rattle.answers.specs.declared.Ticked.the-variants as ticked
+use Rattle.answers.specs.declared.TakenFrame.{TakenFrame}
+use Rattle.answers.specs.declared.TakenRequest.{TakenRequest}
 use Rattle.answers.specs.declared.Taken.{Taken}
 use Rattle.answers.specs.declared.Taken.the-variants as taken
-use Rattle.answers.specs.Answers.{refusalNumber, receivedNumber}
+use Rattle.answers.specs.Answers.{refusalNumber, receivedNumber, respondedNumber, silenceNumber}
 use Rattle.text.specs.Text.{ascii, each, hex, spaced}
 
 -- a word alone; a word and numbers; "A refused event prints its word, `refused` and the number."
@@ -37,6 +43,19 @@ rxLine (received.NoRow place) = numbersLine (ascii "rx") (receivedNumber (receiv
 rxLine received.TooShort = numbersLine (ascii "rx") (receivedNumber received.TooShort ∷ [])
 rxLine (received.Refused why) = refusedLine (ascii "rx") why
 
+-- of a response on LIN, "`rx ANSWER`" alike: it has a row, or is refused (document 02, Ticket 2)
+unfoldable pub responseLine : Responded → List ℕ
+responseLine responded.Accepted = numbersLine (ascii "rx") (respondedNumber responded.Accepted ∷ [])
+responseLine responded.TooShort = numbersLine (ascii "rx") (respondedNumber responded.TooShort ∷ [])
+responseLine responded.WrongSum = numbersLine (ascii "rx") (respondedNumber responded.WrongSum ∷ [])
+responseLine (responded.Refused why) = refusedLine (ascii "rx") why
+
+-- of "no response", `silent` and what it "answers 1 or 2 as the report would" (document 02, Ticket 2)
+unfoldable pub silenceLine : Silence → List ℕ
+silenceLine silence.Short = numbersLine (ascii "silent") (silenceNumber silence.Short ∷ [])
+silenceLine silence.Long = numbersLine (ascii "silent") (silenceNumber silence.Long ∷ [])
+silenceLine (silence.Refused why) = refusedLine (ascii "silent") why
+
 -- "`tick` and the report bytes in decimal, single spaces between"
 unfoldable pub tickLine : Ticked → List ℕ → List ℕ
 tickLine ticked.Done report = numbersLine (ascii "tick") report
@@ -46,14 +65,20 @@ tickLine (ticked.Refused why) report = refusedLine (ascii "tick") why
 unfoldable pub payloadText : ℕ → List ℕ → List ℕ
 payloadText size payload = pick (eqb size 0) (ascii "-") (hex payload)
 
--- "`take none` or `take TX ID SIZE PAYLOAD WAITING`"
-unfoldable pub frameLine : ℕ → ℕ → ℕ → ℕ → List ℕ → List ℕ
-frameLine tx id size waiting payload =
-    ascii "take" ++ each spaced (tx ∷ id ∷ size ∷ []) ++ ascii " " ++ payloadText size payload ++ spaced waiting ++ ascii "\n"
+-- "`take none` or `take TX ID SIZE PAYLOAD WAITING`"; "`take request RX ID SIZE WAITING`" (document 02, Ticket 2). The protected identifier and the
+-- checksum are part of the answer and not of the line.
+unfoldable pub frameLine : TakenFrame → List ℕ → List ℕ
+frameLine f payload =
+    ascii "take" ++ each spaced (f .tx .0 ∷ f .id ∷ f .size ∷ []) ++ ascii " " ++ payloadText (f .size) payload ++ spaced (f .waiting)
+    ++ ascii "\n"
+
+abbrev pub requestLine : TakenRequest → List ℕ
+requestLine q = numbersLine (ascii "take request") (q .rx .0 ∷ q .id ∷ q .size ∷ q .waiting ∷ [])
 
 unfoldable pub takeLine : Taken → List ℕ → List ℕ
 takeLine taken.Nothing payload = wordLine (ascii "take none")
-takeLine (taken.Frame tx id size waiting) payload = frameLine (tx .0) id size waiting payload
+takeLine (taken.Frame frame) payload = frameLine frame payload
+takeLine (taken.Request request) payload = requestLine request
 takeLine (taken.Refused why) payload = refusedLine (ascii "take") why
 
 -- "A cut or unknown event record prints `input bad`"

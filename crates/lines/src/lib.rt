@@ -1,16 +1,18 @@
 // The bench program's lines: each function writes its line at the start of the lent buffer, and answers how long the line is.
 use answers::Opened;
 use answers::Received;
+use answers::Responded;
+use answers::Silence;
 use answers::Taken;
+use answers::TakenFrame;
 use answers::Ticked;
 use answers::refusal_number;
-use records::record::TxNumber;
-ghost use mathlib.Core.Path.{_≡_};
 ghost use mathlib.Core.List.{[], _∷_};
 ghost use Prim.Native.Nat.{_+_, _*_, _≤_};
 ghost use lib.ListN.{length};
 ghost use Rattle.text.specs.Text.{Put, LineIs};
-ghost use Rattle.lines.specs.Lines.{wordLine, numbersLine, payloadText, frameLine, planLine, rxLine, tickLine, takeLine, badLine};
+ghost use Rattle.lines.specs.Lines.{wordLine, numbersLine, planLine, rxLine, responseLine, silenceLine, tickLine};
+ghost use Rattle.lines.specs.Lines.{payloadText, frameLine, takeLine, badLine};
 
 // A word alone.
 fn line_of_word(word: &[u8], line: &mut [u8]) -> usize
@@ -21,7 +23,7 @@ fn line_of_word(word: &[u8], line: &mut [u8]) -> usize
     text::put_byte(line, end, b'\n')
 }
 
-// A word and one, two, three numbers.
+// A word and one, two, three, four numbers.
 fn line_of_one(word: &[u8], n: usize, line: &mut [u8]) -> usize
     requires { ⌜ (2048 ≤ length (now line)) × (length (now word) ≤ 100) ⌝ }
     ensures { λ r. ⌜ LineIs (numbersLine (now (word .entry)) (n ∷ [])) (now (line .entry)) (now (line .exit)) r ⌝ }
@@ -50,6 +52,16 @@ fn line_of_three(word: &[u8], n: usize, m: usize, k: usize, line: &mut [u8]) -> 
     text::put_byte(line, end, b'\n')
 }
 
+fn line_of_four(word: &[u8], n: usize, m: usize, k: usize, l: usize, line: &mut [u8]) -> usize
+    requires { ⌜ (2048 ≤ length (now line)) × (length (now word) ≤ 100) ⌝ }
+    ensures { λ r. ⌜ LineIs (numbersLine (now (word .entry)) (n ∷ m ∷ k ∷ l ∷ [])) (now (line .entry)) (now (line .exit)) r ⌝ }
+{
+    let named = text::put_word(line, 0, word);
+    let first = text::put_number(line, named, n);
+    let end = text::put_three(line, first, m, k, l);
+    text::put_byte(line, end, b'\n')
+}
+
 // A word and bytes in decimal.
 fn line_of_bytes(word: &[u8], bytes: &[u8], line: &mut [u8]) -> usize
     requires { ⌜ (2048 ≤ length (now line)) × (length (now word) ≤ 100) × (length (now bytes) ≤ 256) ⌝ }
@@ -73,22 +85,15 @@ fn put_payload(line: &mut [u8], at: usize, size: usize, payload: &[u8]) -> usize
 }
 
 // A frame that is taken.
-fn line_of_frame(
-    tx: TxNumber,
-    id: usize,
-    size: usize,
-    waiting: usize,
-    payload: &[u8],
-    line: &mut [u8],
-) -> usize
+fn line_of_frame(frame: TakenFrame, payload: &[u8], line: &mut [u8]) -> usize
     requires { ⌜ (2048 ≤ length (now line)) × (length (now payload) ≤ 256) ⌝ }
-    ensures { λ r. ⌜ LineIs (frameLine (tx .0) id size waiting (now (payload .entry))) (now (line .entry)) (now (line .exit)) r ⌝ }
+    ensures { λ r. ⌜ LineIs (frameLine frame (now (payload .entry))) (now (line .entry)) (now (line .exit)) r ⌝ }
 {
     let named = text::put_word(line, 0, b"take");
-    let sized = text::put_three(line, named, tx.0, id, size);
+    let sized = text::put_three(line, named, frame.tx.0, frame.id, frame.size);
     let spaced = text::put_byte(line, sized, b' ');
-    let shown = put_payload(line, spaced, size, payload);
-    let end = text::put_number(line, shown, waiting);
+    let shown = put_payload(line, spaced, frame.size, payload);
+    let end = text::put_number(line, shown, frame.waiting);
     text::put_byte(line, end, b'\n')
 }
 
@@ -121,6 +126,30 @@ pub fn rx_line(answer: Received, line: &mut [u8]) -> usize
     }
 }
 
+// What a response on LIN answered, and what "no response" did.
+pub fn response_line(answer: Responded, line: &mut [u8]) -> usize
+    requires { ⌜ 2048 ≤ length (now line) ⌝ }
+    ensures { λ r. ⌜ LineIs (responseLine answer) (now (line .entry)) (now (line .exit)) r ⌝ }
+{
+    match answer {
+        Responded::Accepted => line_of_one(b"rx", 0, line),
+        Responded::TooShort => line_of_one(b"rx", 2, line),
+        Responded::WrongSum => line_of_one(b"rx", 3, line),
+        Responded::Refused(why) => line_of_one(b"rx refused", refusal_number(why), line),
+    }
+}
+
+pub fn silence_line(answer: Silence, line: &mut [u8]) -> usize
+    requires { ⌜ 2048 ≤ length (now line) ⌝ }
+    ensures { λ r. ⌜ LineIs (silenceLine answer) (now (line .entry)) (now (line .exit)) r ⌝ }
+{
+    match answer {
+        Silence::Short => line_of_one(b"silent", 1, line),
+        Silence::Long => line_of_one(b"silent", 2, line),
+        Silence::Refused(why) => line_of_one(b"silent refused", refusal_number(why), line),
+    }
+}
+
 // What a tick answered, with the report bytes, one for each Rx frame.
 pub fn tick_line(answer: Ticked, report: &[u8], line: &mut [u8]) -> usize
     requires { ⌜ (2048 ≤ length (now line)) × (length (now report) ≤ 256) ⌝ }
@@ -139,12 +168,15 @@ pub fn take_line(answer: Taken, payload: &[u8], line: &mut [u8]) -> usize
 {
     match answer {
         Taken::Nothing => line_of_word(b"take none", line),
-        Taken::Frame {
-            tx,
-            id,
-            size,
-            waiting,
-        } => line_of_frame(tx, id, size, waiting, payload, line),
+        Taken::Frame(frame) => line_of_frame(frame, payload, line),
+        Taken::Request(request) => line_of_four(
+            b"take request",
+            request.rx.0,
+            request.id,
+            request.size,
+            request.waiting,
+            line,
+        ),
         Taken::Refused(why) => line_of_one(b"take refused", refusal_number(why), line),
     }
 }

@@ -5,11 +5,11 @@ use native.Mathlib.Omega.{arith}
 use lib.Dec.{leb, ltb, eqb}
 use lib.ListN.{length, take, drop}
 use lib.Seq.{getD-drop}
-use Rattle.base.specs.Numbers.{byteAt, Bytes}
+use Rattle.base.specs.Numbers.{byteAt, twoAt, Bytes}
 use Rattle.base.proofs.Picks.{both}
 use Rattle.facts.specs.Good.{Each}
 use Rattle.events.specs.declared.Event.{Event}
-use Rattle.events.specs.declared.Event.the-variants.{Reception, Tick, Take, Bad, End}
+use Rattle.events.specs.declared.Event.the-variants.{Reception, Tick, Take, Response, NoResponse, Bad, End}
 use Rattle.events.specs.Events.{planOf, eventLength, wholeEvent, eventAt, eventSize}
 use Rattle.model.specs.Rules.{OfBytes}
 use Rattle.listing.specs.Asked.{Asked, askedBy, askedIn}
@@ -19,6 +19,8 @@ unfoldable pub TwoBytes : Event → Type 0
 TwoBytes (Reception node id size) = id < 65536
 TwoBytes Tick = Unit {0}
 TwoBytes (Take node) = Unit {0}
+TwoBytes (Response node id size sum) = id < 65536
+TwoBytes (NoResponse node id) = id < 65536
 TwoBytes Bad = Unit {0}
 TwoBytes End = Unit {0}
 
@@ -26,11 +28,14 @@ pub event-id : (input : List ℕ) (at : ℕ) → Bytes input → TwoBytes (event
 unfolding eventAt wholeEvent TwoBytes
 event-id input at b =
     let kind = byteAt input at in
+    let two : twoAt input (at + 2) < 65536 = omega (arith, b (at + 2), b (at + 2 + 1)) in
     both TwoBytes (leb (length input) at) _ _ tt
     (both TwoBytes (ltb (length input - at) (eventLength kind)) _ _ tt
-    (both TwoBytes (eqb kind 16) _ _ (omega (arith, b (at + 2), b (at + 2 + 1)))
+    (both TwoBytes (eqb kind 16) _ _ two
     (both TwoBytes (eqb kind 17) _ _ tt
-    (both TwoBytes (eqb kind 18) _ _ tt tt))))
+    (both TwoBytes (eqb kind 18) _ _ tt
+    (both TwoBytes (eqb kind 20) _ _ two
+    (both TwoBytes (eqb kind 21) _ _ two tt))))))
 
 -- no opening is among the events
 calls-by : (e : Event) (input : List ℕ) (at rx : ℕ) (rest : Asked) → Each OfBytes (rest .steps) → Each OfBytes (askedBy e input at rx rest .steps)
@@ -38,6 +43,8 @@ unfolding askedBy Each OfBytes
 calls-by (Reception node id size) input at rx rest h = (tt, h)
 calls-by Tick input at rx rest h = (tt, h)
 calls-by (Take node) input at rx rest h = (tt, h)
+calls-by (Response node id size sum) input at rx rest h = (tt, h)
+calls-by (NoResponse node id) input at rx rest h = (tt, h)
 calls-by Bad input at rx rest h = tt
 calls-by End input at rx rest h = tt
 

@@ -1,8 +1,8 @@
 -- An event record is read as it is written, wherever it stands.
 use mathlib.Core.Path.{_≡_, refl, sym, ap, _∙_}
 use mathlib.Core.Bool.{Bool, true, false}
-use mathlib.Core.List.{List, [], _∷_, _++_}
-use Prim.Native.Nat.{ℕ, suc, _+_, _*_, _-_, _/_, _%_, _≤_, _<_}
+use mathlib.Core.List.{List, [], _∷_, _++_, append-assoc}
+use Prim.Native.Nat.{ℕ, suc, _+_, _-_, _/_, _%_, _≤_, _<_}
 use native.Mathlib.Nat.{zero-add, suc-add}
 use native.Mathlib.Decide.{ℕ-discrete}
 use native.Mathlib.Omega.{arith}
@@ -11,12 +11,12 @@ use lib.Dec.{ltb}
 use lib.ListN.{length, drop, length-append}
 use lib.Seq.{take-append-le}
 use Rattle.base.specs.Pick.{pick}
-use Rattle.base.specs.Numbers.{byteAt}
+use Rattle.base.specs.Numbers.{byteAt, twoAt}
 use Rattle.events.specs.declared.Event.{Event}
 use Rattle.events.specs.declared.Event.the-variants as event
 use Rattle.events.specs.Events.{eventLength, wholeEvent, eventAt, payloadAt}
 use Rattle.events.proofs.EventLaws.{no-length, no-event, event-cut, event-whole}
-use Rattle.listing.specs.Input.{Entry, reception, tick, take, bytesOf, Whole, payloadOf}
+use Rattle.listing.specs.Input.{Entry, reception, tick, take, response, noResponse, bytesOf, Whole, payloadOf}
 
 -- ---- what stands behind a front
 
@@ -65,42 +65,58 @@ unfoldable pub eventOf : Entry → Event
 eventOf (reception node id size bytes) = event.Reception node id size
 eventOf tick = event.Tick
 eventOf (take node) = event.Take node
+eventOf (response node id size bytes sum) = event.Response node id size sum
+eventOf (noResponse node id) = event.NoResponse node id
 
-fields : (node high low size : ℕ) (bytes xs : List ℕ)
-    → wholeEvent 16 (xs ++ 16 ∷ node ∷ high ∷ low ∷ size ∷ bytes) (length xs) ≡ event.Reception node (high * 256 + low) size
-unfolding wholeEvent pick
-fields node high low size bytes xs =
-    let ys : List ℕ = 16 ∷ node ∷ high ∷ low ∷ size ∷ bytes in
-    rw (behind-by xs ys 1, behind-by xs ys 2, behind xs ys (length xs + 2 + 1) 3 (omega arith), behind-by xs ys 4) refl
+-- the ID, and the checksum behind eight data bytes
+id-read : (kind node id : ℕ) (rest xs : List ℕ) → twoAt (xs ++ kind ∷ node ∷ id / 256 ∷ id % 256 ∷ rest) (length xs + 2) ≡ id
+id-read kind node id rest xs =
+    let ys : List ℕ = kind ∷ node ∷ id / 256 ∷ id % 256 ∷ rest in
+    rw (behind-by xs ys 2, behind xs ys (length xs + 2 + 1) 3 (omega arith)) (omega arith)
+
+sum-read : (bytes ys : List ℕ) (sum : ℕ) → length bytes ≡ 8 → byteAt ((bytes ++ sum ∷ []) ++ ys) 8 ≡ sum
+sum-read bytes ys sum w = rw (append-assoc bytes (sum ∷ []) ys) (behind bytes (sum ∷ ys) 8 0 (omega arith))
 
 pub entry-read : (e : Entry) (xs ys : List ℕ) → Whole e → eventAt (xs ++ (bytesOf e ++ ys)) (length xs) ≡ eventOf e
 unfolding eventOf bytesOf Whole eventLength wholeEvent pick
 entry-read (reception node id size bytes) xs ys w =
-    let both : id / 256 * 256 + id % 256 ≡ id = omega arith in
-    whole-at 16 xs (node ∷ id / 256 ∷ id % 256 ∷ size ∷ (bytes ++ ys)) (omega (arith, length-append bytes ys))
-    ∙ fields node (id / 256) (id % 256) size (bytes ++ ys) xs ∙ ap (λ (n : ℕ). event.Reception node n size) both
+    let rest : List ℕ = size ∷ (bytes ++ ys) in
+    let all : List ℕ = 16 ∷ node ∷ id / 256 ∷ id % 256 ∷ rest in
+    whole-at 16 xs (node ∷ id / 256 ∷ id % 256 ∷ rest) (omega (arith, length-append bytes ys))
+    ∙ rw (behind-by xs all 1, id-read 16 node id rest xs, behind-by xs all 4) refl
 entry-read tick xs ys w = whole-at 17 xs ys (omega arith)
 entry-read (take node) xs ys w =
     whole-at 18 xs (node ∷ ys) (omega arith) ∙ ap (λ (n : ℕ). event.Take n) (behind-by xs (18 ∷ node ∷ ys) 1)
+entry-read (response node id size bytes sum) xs ys w =
+    let rest : List ℕ = size ∷ ((bytes ++ sum ∷ []) ++ ys) in
+    let all : List ℕ = 20 ∷ node ∷ id / 256 ∷ id % 256 ∷ rest in
+    whole-at 20 xs (node ∷ id / 256 ∷ id % 256 ∷ rest) (omega (arith, length-append (bytes ++ sum ∷ []) ys, length-append bytes (sum ∷ [])))
+    ∙ rw (behind-by xs all 1, id-read 20 node id rest xs, behind-by xs all 4, behind-by xs all 13, sum-read bytes ys sum w) refl
+entry-read (noResponse node id) xs ys w =
+    whole-at 21 xs (node ∷ id / 256 ∷ id % 256 ∷ ys) (omega arith)
+    ∙ rw (behind-by xs (21 ∷ node ∷ id / 256 ∷ id % 256 ∷ ys) 1, id-read 21 node id ys xs) refl
 
 -- the payload that is handed on
-pub payload-read : (node id size : ℕ) (bytes xs ys : List ℕ) → length bytes ≡ 8
-    → payloadAt (xs ++ (bytesOf (reception node id size bytes) ++ ys)) (length xs) ≡ payloadOf size bytes
-unfolding bytesOf payloadAt payloadOf
-payload-read node id size bytes xs ys w =
-    let all : List ℕ = 16 ∷ node ∷ id / 256 ∷ id % 256 ∷ size ∷ (bytes ++ ys) in
+pub payload-read : (kind node high low size : ℕ) (bytes xs ys : List ℕ) → length bytes ≡ 8
+    → payloadAt (xs ++ kind ∷ node ∷ high ∷ low ∷ size ∷ (bytes ++ ys)) (length xs) ≡ payloadOf size bytes
+unfolding payloadAt payloadOf
+payload-read kind node high low size bytes xs ys w =
+    let all : List ℕ = kind ∷ node ∷ high ∷ low ∷ size ∷ (bytes ++ ys) in
     rw (behind-by xs all 4, drop-behind xs all 5)
     (same-choice (ltb 8 size) _ _ _ (λ t. take-append-le size bytes ys (omega (arith, ltb-false))))
 
 -- ---- broken ones
 
 pub broken-read : (kind : ℕ) (rest xs : List ℕ) → (kind ≡ 16 → length rest < 12) → (kind ≡ 17 → ⊥) → (kind ≡ 18 → length rest < 1)
-    → eventAt (xs ++ kind ∷ rest) (length xs) ≡ event.Bad
+    → (kind ≡ 20 → length rest < 13) → (kind ≡ 21 → length rest < 3) → eventAt (xs ++ kind ∷ rest) (length xs) ≡ event.Bad
 unfolding eventLength pick
-broken-read kind rest xs h16 h17 h18 = go (ℕ-discrete kind 16) (ℕ-discrete kind 18)
+broken-read kind rest xs h16 h17 h18 h20 h21 = go (ℕ-discrete kind 16) (ℕ-discrete kind 18) (ℕ-discrete kind 20) (ℕ-discrete kind 21)
   where
-    go : Dec (kind ≡ 16) → Dec (kind ≡ 18) → eventAt (xs ++ kind ∷ rest) (length xs) ≡ event.Bad
-    go (yes e) d = cut-at kind xs rest (rw e (omega (arith, h16 e)))
-    go (no n16) (yes e) = cut-at kind xs rest (rw e (omega (arith, h18 e)))
-    go (no n16) (no n18) =
-        whole-at kind xs rest (omega (arith, no-length kind n16 h17 n18)) ∙ sym (no-event kind n16 h17 n18 (xs ++ kind ∷ rest) (length xs))
+    go : Dec (kind ≡ 16) → Dec (kind ≡ 18) → Dec (kind ≡ 20) → Dec (kind ≡ 21) → eventAt (xs ++ kind ∷ rest) (length xs) ≡ event.Bad
+    go (yes e) d18 d20 d21 = cut-at kind xs rest (rw e (omega (arith, h16 e)))
+    go (no n16) (yes e) d20 d21 = cut-at kind xs rest (rw e (omega (arith, h18 e)))
+    go (no n16) (no n18) (yes e) d21 = cut-at kind xs rest (rw e (omega (arith, h20 e)))
+    go (no n16) (no n18) (no n20) (yes e) = cut-at kind xs rest (rw e (omega (arith, h21 e)))
+    go (no n16) (no n18) (no n20) (no n21) =
+        whole-at kind xs rest (omega (arith, no-length kind n16 h17 n18 n20 n21))
+        ∙ sym (no-event kind n16 h17 n18 n20 n21 (xs ++ kind ∷ rest) (length xs))

@@ -5,8 +5,9 @@ use Rattle.bits.specs.Digit.{digit, setDigit}
 use Rattle.bits.specs.Payload.{digitOf, bitAt, setBit, copied, differs}
 use Rattle.clock.specs.Timer.{lowered}
 use Rattle.records.specs.Kinds.{formOf, lengthOf, eightAt, txAt, rxAt, fieldsAt, kindOf}
+use Rattle.records.specs.Nodes.{typeOf, isLin, sameEntry}
 use Rattle.records.specs.Records.{recordAt, sizeOf, recordsFrom, recordsAt, records}
-use Rattle.plan.specs.Rows.{widthOf, withFailure, claimsFrom, awaited, rowOf, rowsFrom, rowsOf, allClaims, txFrames, txOf, nodesIn, orderIn}
+use Rattle.plan.specs.Rows.{widthOf, withFailure, claimsFrom, awaited, rowOf, rowsFrom, rowsOf, allClaims, txFrames, txOf, nodesIn, typesIn, orderIn}
 use Rattle.plan.specs.declared.verdict.Verdict.the-variants.{Good}
 use Rattle.plan.specs.Check.{checkPlan}
 use Rattle.facts.specs.PlanCases.{listing}
@@ -18,9 +19,9 @@ use Rattle.lines.specs.Lines.{wordLine, numbersLine, planLine, rxLine, tickLine
 use Rattle.model.specs.Opening.{mapped, begun, openAnswer}
 use Rattle.model.specs.Scheduling.{isIn, joined, scheduled}
 use Rattle.model.specs.Reception.{find, smaller, sentIf, putBy, put, restarted, accepted, foundAnswer, foundState, receivedAnswer, received}
-use Rattle.model.specs.Tick.{handled, txLowered, txTurn, txTurns, failedBy, failed, expired, rxLowered, rxTurn, rxTurns, reportOf, reported}
-use Rattle.model.specs.Tick.{tickedState, tickAnswer, ticked, tickReport}
-use Rattle.model.specs.Take.{oldestAnswer, oldestPayload, withoutOldest, takenAnswer, takenPayload, taken}
+use Rattle.model.specs.Tick.{handled, txLowered, txTurn, txTurns, failedBy, failed, expired, timeoutOf, rxExpiry, rxLowered, rxTurn, rxTurns}
+use Rattle.model.specs.Tick.{expiryReport, reportOf, reported, tickedState, tickAnswer, ticked, tickReport}
+use Rattle.model.specs.Take.{handed, framingOf, entryAnswer, oldestAnswer, oldestPayload, withoutOldest, takenAnswer, takenPayload, taken}
 use Rattle.model.specs.Calls.{answerOf, nextOf, answerFrom, nextFrom, openNext, theModel, replyOf, worldAfter, replies}
 use Rattle.listing.specs.Asked.{askedBy, askedIn, askedFrom}
 use Rattle.listing.specs.Output.{answerLine, lineOf, linesOf, askedOf, textOf, frontText, modelOutput}
@@ -30,12 +31,12 @@ is-good : checkPlan listing ≡ Good 1 1 1
 is-good = plan-cases-hold .1 .1 .1 .1 .1 .1 .1 .1 .1 .1 .1 .1 .1 .1 .1 .1 .1 .1 .1 .1 .1 .1 .1 .0
 
 pub listing-holds : ListingHolds
-unfolding pick digit setDigit digitOf bitAt setBit copied differs lowered formOf lengthOf eightAt txAt rxAt fieldsAt kindOf recordAt sizeOf
-    recordsFrom recordsAt records widthOf withFailure claimsFrom awaited rowOf rowsFrom rowsOf allClaims txFrames txOf nodesIn orderIn mapped
-    begun openAnswer isIn joined scheduled handled txLowered txTurn txTurns failedBy failed expired rxLowered rxTurn rxTurns reportOf reported
-    tickedState tickAnswer ticked tickReport oldestAnswer oldestPayload withoutOldest takenAnswer takenPayload taken find smaller sentIf putBy put
-    restarted accepted foundAnswer foundState receivedAnswer received answerOf nextOf answerFrom nextFrom openNext theModel replyOf worldAfter replies
-    refusalNumber receivedNumber glyph decimalIn decimal hexByte each spaced frontOf eventLength wholeEvent eventAt eventSize payloadAt wordLine
-    numbersLine planLine rxLine tickLine payloadText frameLine takeLine badLine askedBy askedIn askedFrom answerLine lineOf linesOf askedOf textOf
-    frontText modelOutput
+unfolding pick digit setDigit digitOf bitAt setBit copied differs lowered formOf lengthOf eightAt txAt rxAt fieldsAt kindOf typeOf isLin sameEntry
+    recordAt sizeOf recordsFrom recordsAt records widthOf withFailure claimsFrom awaited rowOf rowsFrom rowsOf allClaims txFrames txOf nodesIn typesIn
+    orderIn mapped begun openAnswer isIn joined scheduled handled txLowered txTurn txTurns failedBy failed expired timeoutOf rxExpiry rxLowered rxTurn
+    rxTurns expiryReport reportOf reported tickedState tickAnswer ticked tickReport handed framingOf entryAnswer oldestAnswer oldestPayload
+    withoutOldest takenAnswer takenPayload taken find smaller sentIf putBy put restarted accepted foundAnswer foundState receivedAnswer received
+    answerOf nextOf answerFrom nextFrom openNext theModel replyOf worldAfter replies refusalNumber receivedNumber glyph decimalIn decimal hexByte each
+    spaced frontOf eventLength wholeEvent eventAt eventSize payloadAt wordLine numbersLine planLine rxLine tickLine payloadText frameLine takeLine
+    badLine askedBy askedIn askedFrom answerLine lineOf linesOf askedOf textOf frontText modelOutput
 listing-holds = rw is-good refl

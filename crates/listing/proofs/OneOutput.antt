@@ -6,7 +6,7 @@ use mathlib.Core.List.{List, [], _∷_, _++_, append-assoc, append-nil}
 use Prim.Native.Nat.{ℕ, zero, suc, _+_, _*_, _/_, _%_, _≤_, _<_}
 use native.Mathlib.Decide.{ℕ-discrete, decLt}
 use native.Mathlib.Omega.{arith}
-use lib.ListN.{length, take as firstOf, drop, length-drop, take-append-drop}
+use lib.ListN.{length, take as firstOf, drop, length-append, length-drop, take-append-drop}
 use lib.Seq.{getD-drop, length-take-le}
 use Rattle.facts.specs.Good.{Each}
 use Rattle.answers.specs.declared.Opened.{Opened}
@@ -14,7 +14,7 @@ use Rattle.answers.specs.declared.Opened.the-variants.{Open, Refused}
 use Rattle.base.specs.Numbers.{Bytes}
 use Rattle.model.specs.Calls.{closed}
 use Rattle.listing.specs.Output.{bench, modelOutput}
-use Rattle.listing.specs.Input.{Entry, reception, tick, take, bytesOf, Whole, allBytes, Broken, inputOf, InputRules, OneOutput}
+use Rattle.listing.specs.Input.{Entry, reception, tick, take, response, noResponse, bytesOf, Whole, allBytes, Broken, inputOf, InputRules, OneOutput}
 use Rattle.listing.proofs.InputRules.{output-meets}
 
 -- ---- the events
@@ -45,50 +45,115 @@ stop xs e = record { entries = []; tail = xs; whole = tt; bytes = refl; ends = e
 later : (n : ℕ) (xs : List ℕ) → Bytes xs → Bytes (drop n xs)
 later n xs b i = rw (getD-drop n xs i 0) (b (n + i))
 
--- a reception that is whole
-received : (xs : List ℕ) → 12 ≤ length xs → Bytes xs → ((ys : List ℕ) → length ys < length xs → Bytes ys → Split ys) → Split (16 ∷ xs)
-unfolding bytesOf Whole
-received [] h b more = absurd (omega arith)
-received (n ∷ []) h b more = absurd (omega arith)
-received (n ∷ i ∷ []) h b more = absurd (omega arith)
-received (n ∷ i ∷ j ∷ []) h b more = absurd (omega arith)
-received (n ∷ i ∷ j ∷ s ∷ ys) h b more =
+-- what is shorter is split
+abbrev Shorter : List ℕ → Type 0
+Shorter xs = (ys : List ℕ) → length ys < length xs → Bytes ys → Split ys
+
+-- a record that is cut or unknown
+cut : (k : ℕ) (xs : List ℕ) → (k ≡ 16 → length xs < 12) → (k ≡ 17 → ⊥) → (k ≡ 18 → length xs < 1) → (k ≡ 20 → length xs < 13)
+    → (k ≡ 21 → length xs < 3) → Split (k ∷ xs)
+cut k xs h16 h17 h18 h20 h21 =
+    stop (k ∷ xs)
+    (inr (record { kind = k; rest = xs; begins = refl; reception = h16; tick = h17; take = h18; response = h20; noResponse = h21 }))
+
+-- the node and the ID that most kinds begin with
+record Headed (xs : List ℕ) : Type 0 where
+  node : ℕ
+  id : ℕ
+  rest : List ℕ
+  bytes : xs ≡ node ∷ id / 256 ∷ id % 256 ∷ rest
+
+headed : (xs : List ℕ) → 3 ≤ length xs → Bytes xs → Headed xs
+headed [] h b = absurd (omega arith)
+headed (n ∷ []) h b = absurd (omega arith)
+headed (n ∷ i ∷ []) h b = absurd (omega arith)
+headed (n ∷ i ∷ j ∷ ys) h b =
     let low : j < 256 = b 2 in
     let high : (i * 256 + j) / 256 ≡ i = omega arith in
     let rest : (i * 256 + j) % 256 ≡ j = omega arith in
-    let shape : 16 ∷ n ∷ i ∷ j ∷ s ∷ ys ≡ 16 ∷ n ∷ (i * 256 + j) / 256 ∷ (i * 256 + j) % 256 ∷ s ∷ (firstOf 8 ys ++ drop 8 ys) =
-    rw (high, rest, take-append-drop 8 ys) refl in
-    grow (reception n (i * 256 + j) s (firstOf 8 ys)) _ (drop 8 ys) (length-take-le 8 ys (omega arith)) shape
-    (more (drop 8 ys) (omega (arith, length-drop 8 ys)) (later 8 ys (later 4 (n ∷ i ∷ j ∷ s ∷ ys) b)))
+    record { node = n; id = i * 256 + j; rest = ys; bytes = rw (high, rest) refl }
 
-taken : (xs : List ℕ) → Bytes xs → ((ys : List ℕ) → length ys < length xs → Bytes ys → Split ys) → Split (18 ∷ xs)
+-- the records behind them that are whole
+module _ (n id : ℕ) where
+  abbrev behind : List ℕ → List ℕ
+  behind rest = n ∷ id / 256 ∷ id % 256 ∷ rest
+
+  received : (rest : List ℕ) → 12 ≤ length (behind rest) → Bytes (behind rest) → Shorter (behind rest) → Split (16 ∷ behind rest)
+  unfolding bytesOf Whole
+  received [] h b more = absurd (omega arith)
+  received (s ∷ ys) h b more =
+      let shape : 16 ∷ behind (s ∷ ys) ≡ 16 ∷ behind (s ∷ (firstOf 8 ys ++ drop 8 ys)) = rw (take-append-drop 8 ys) refl in
+      grow (reception n id s (firstOf 8 ys)) _ (drop 8 ys) (length-take-le 8 ys (omega arith)) shape
+      (more (drop 8 ys) (omega (arith, length-drop 8 ys)) (later 8 ys (later 4 (behind (s ∷ ys)) b)))
+
+  -- eight data bytes, and the checksum behind them
+  summed : (s : ℕ) (eight rest : List ℕ) → length eight ≡ 8 → 0 < length rest → Bytes rest → Shorter (behind (s ∷ (eight ++ rest)))
+      → Split (20 ∷ behind (s ∷ (eight ++ rest)))
+  unfolding bytesOf Whole
+  summed s eight [] w h b more = absurd (omega arith)
+  summed s eight (sum ∷ ys) w h b more =
+      grow (response n id s eight sum) _ ys w (rw (append-assoc eight (sum ∷ []) ys) refl)
+      (more ys (omega (arith, length-append eight (sum ∷ ys))) (later 1 (sum ∷ ys) b))
+
+  responded : (rest : List ℕ) → 13 ≤ length (behind rest) → Bytes (behind rest) → Shorter (behind rest) → Split (20 ∷ behind rest)
+  responded [] h b more = absurd (omega arith)
+  responded (s ∷ ys) h b more =
+      let whole = take-append-drop 8 ys in
+      rw whole at
+      (summed s (firstOf 8 ys) (drop 8 ys) (length-take-le 8 ys (omega arith)) (omega (arith, length-drop 8 ys))
+      (later 8 ys (later 4 (behind (s ∷ ys)) b)) (rw whole more))
+
+  silent : (rest : List ℕ) → 3 ≤ length (behind rest) → Bytes (behind rest) → Shorter (behind rest) → Split (21 ∷ behind rest)
+  unfolding bytesOf Whole
+  silent rest h b more = grow (noResponse n id) _ rest tt refl (more rest (omega arith) (later 3 (behind rest) b))
+
+taken : (xs : List ℕ) → Bytes xs → Shorter xs → Split (18 ∷ xs)
 unfolding bytesOf Whole
-taken [] b more =
-    stop (18 ∷ [])
-    (inr (record { kind = 18; rest = []; begins = refl; reception = λ e. absurd (omega arith); tick = λ e. omega arith; take = λ e. omega arith }))
+taken [] b more = cut 18 [] (λ e. absurd (omega arith)) (λ e. omega arith) (λ e. omega arith) (λ e. absurd (omega arith)) (λ e. absurd (omega arith))
 taken (n ∷ ys) b more = grow (take n) _ ys tt refl (more ys (omega arith) (later 1 (n ∷ ys) b))
 
+-- by the kind, where the record is long enough for it or is not
+module _ (xs : List ℕ) (b : Bytes xs) (more : Shorter xs) where
+  longer : (k least : ℕ) → 3 ≤ least → least ≤ length xs
+      → ((n id : ℕ) (rest : List ℕ) → least ≤ length (behind n id rest) → Bytes (behind n id rest) → Shorter (behind n id rest)
+      → Split (k ∷ behind n id rest)) → Split (k ∷ xs)
+  longer k least h l make =
+      let head = headed xs (omega arith) b in
+      let same = head .bytes in
+      rw same (make (head .node) (head .id) (head .rest) (rw same at l) (rw same at b) (rw same at more))
+
+  by-16 : Dec (length xs < 12) → Split (16 ∷ xs)
+  by-16 (yes l) = cut 16 xs (λ e. l) (λ e. omega arith) (λ e. absurd (omega arith)) (λ e. absurd (omega arith)) (λ e. absurd (omega arith))
+  by-16 (no l) = longer 16 12 (omega arith) (omega arith) received
+
+  by-20 : Dec (length xs < 13) → Split (20 ∷ xs)
+  by-20 (yes l) = cut 20 xs (λ e. absurd (omega arith)) (λ e. omega arith) (λ e. absurd (omega arith)) (λ e. l) (λ e. absurd (omega arith))
+  by-20 (no l) = longer 20 13 (omega arith) (omega arith) responded
+
+  by-21 : Dec (length xs < 3) → Split (21 ∷ xs)
+  by-21 (yes l) = cut 21 xs (λ e. absurd (omega arith)) (λ e. omega arith) (λ e. absurd (omega arith)) (λ e. absurd (omega arith)) (λ e. l)
+  by-21 (no l) = longer 21 3 (omega arith) (omega arith) silent
+
 -- the first record, where what is shorter is split
-one : (xs : List ℕ) → Bytes xs → ((ys : List ℕ) → length ys < length xs → Bytes ys → Split ys) → Split xs
+one : (xs : List ℕ) → Bytes xs → Shorter xs → Split xs
 unfolding bytesOf Whole
 one [] b more = stop [] (inl refl)
-one (k ∷ xs) b more = go (ℕ-discrete k 16) (ℕ-discrete k 17) (ℕ-discrete k 18) (decLt (length xs) 12)
+one (k ∷ xs) b more = go (ℕ-discrete k 16) (ℕ-discrete k 17) (ℕ-discrete k 18) (ℕ-discrete k 20) (ℕ-discrete k 21)
   where
     bytes : Bytes xs
     bytes = later 1 (k ∷ xs) b
 
-    less : (ys : List ℕ) → length ys < length xs → Bytes ys → Split ys
+    less : Shorter xs
     less ys l c = more ys (omega arith) c
 
-    go : Dec (k ≡ 16) → Dec (k ≡ 17) → Dec (k ≡ 18) → Dec (length xs < 12) → Split (k ∷ xs)
-    go (yes e) d17 d18 (yes l) =
-        stop _
-        (inr (record { kind = k; rest = xs; begins = refl; reception = λ f. l; tick = λ f. omega arith; take = λ f. absurd (omega arith) }))
-    go (yes e) d17 d18 (no l) = rw e (received xs (omega arith) bytes less)
-    go (no n16) (yes e) d18 d = grow tick _ xs tt (rw e refl) (more xs (omega arith) bytes)
-    go (no n16) (no n17) (yes e) d = rw e (taken xs bytes less)
-    go (no n16) (no n17) (no n18) d =
-        stop _ (inr (record { kind = k; rest = xs; begins = refl; reception = λ f. absurd (n16 f); tick = n17; take = λ f. absurd (n18 f) }))
+    go : Dec (k ≡ 16) → Dec (k ≡ 17) → Dec (k ≡ 18) → Dec (k ≡ 20) → Dec (k ≡ 21) → Split (k ∷ xs)
+    go (yes e) d17 d18 d20 d21 = rw e (by-16 xs bytes less (decLt (length xs) 12))
+    go (no n16) (yes e) d18 d20 d21 = grow tick _ xs tt (rw e refl) (more xs (omega arith) bytes)
+    go (no n16) (no n17) (yes e) d20 d21 = rw e (taken xs bytes less)
+    go (no n16) (no n17) (no n18) (yes e) d21 = rw e (by-20 xs bytes less (decLt (length xs) 13))
+    go (no n16) (no n17) (no n18) (no n20) (yes e) = rw e (by-21 xs bytes less (decLt (length xs) 3))
+    go (no n16) (no n17) (no n18) (no n20) (no n21) =
+        cut k xs (λ f. absurd (n16 f)) n17 (λ f. absurd (n18 f)) (λ f. absurd (n20 f)) (λ f. absurd (n21 f))
 
 split : (bound : ℕ) (xs : List ℕ) → length xs ≤ bound → Bytes xs → Split xs
 split zero xs h b = one xs b (λ ys l c. absurd (omega arith))

@@ -13,7 +13,7 @@ use Rattle.answers.specs.declared.Opened.{Opened}
 use Rattle.answers.specs.declared.Opened.the-variants as ofOpening
 use Rattle.opening.specs.Opened.{openedAnswer, openedArea}
 use Rattle.events.specs.declared.Event.{Event}
-use Rattle.events.specs.declared.Event.the-variants.{Reception, Tick, Take, Bad, End}
+use Rattle.events.specs.declared.Event.the-variants.{Reception, Tick, Take, Response, NoResponse, Bad, End}
 use Rattle.events.specs.declared.Front.{Front}
 use Rattle.events.specs.declared.Front.the-variants as front
 use Rattle.events.specs.Events.{frontOf, planOf, eventAt, eventSize, payloadAt}
@@ -24,7 +24,7 @@ use Rattle.base.specs.Numbers.{Bytes}
 use Rattle.plan.specs.Shortest.{shortestArea}
 use Rattle.model.specs.Rules.{OfBytes}
 use Rattle.model.specs.Opening.{openAnswer}
-use Rattle.model.specs.Calls.{Call, reception, tick, take, closed, theModel, Step, opening, Reply, opened, replies}
+use Rattle.model.specs.Calls.{Call, reception, response, noResponse, tick, take, closed, theModel, Step, opening, Reply, opened, replies}
 use Rattle.history.specs.Calls.{answerIn, areaAfter, replyIn, stepped, repliesIn}
 use Rattle.refines.specs.Shows.{Marked}
 use Rattle.refines.proofs.All.{as-the-model}
@@ -56,13 +56,19 @@ one : (e : Event) (bound : ℕ) (input : List ℕ) (at rx : ℕ) (a : List ℕ) 
     → ((next : ℕ) (a′ : List ℕ) → area.textIn bound input next rx a′ ≡ written a′ (askedIn bound input next rx))
     → area.eventText e input at rx a ++ area.textIn bound input (area.eventNext e input at) rx (area.eventArea e input at rx a)
     ≡ written a (askedBy e input at rx (askedIn bound input (at + eventSize e) rx))
-unfolding area.eventText area.eventNext area.eventArea area.receivedText area.tickedText area.takenText askedBy eventSize answerIn areaAfter
-    answerLine repliesIn linesOf TwoBytes pick
+unfolding area.eventText area.eventNext area.eventArea area.receivedText area.respondedText area.silentText area.tickedText area.takenText askedBy
+    eventSize answerIn areaAfter answerLine repliesIn linesOf TwoBytes pick
 one (Reception node id size) bound input at rx a two rest =
     let same : id % 65536 ≡ id = omega arith in
     rw same (called (reception node id (payloadAt input at)) a _ (askedIn bound input (at + 13) rx) (rest (at + 13) _))
 one Tick bound input at rx a two rest = called (tick (area.fresh rx)) a _ (askedIn bound input (at + 1) rx) (rest (at + 1) _)
 one (Take node) bound input at rx a two rest = called (take node) a _ (askedIn bound input (at + 2) rx) (rest (at + 2) _)
+one (Response node id size sum) bound input at rx a two rest =
+    let same : id % 65536 ≡ id = omega arith in
+    rw same (called (response node id (payloadAt input at) sum) a _ (askedIn bound input (at + 14) rx) (rest (at + 14) _))
+one (NoResponse node id) bound input at rx a two rest =
+    let same : id % 65536 ≡ id = omega arith in
+    rw same (called (noResponse node id) a _ (askedIn bound input (at + 4) rx) (rest (at + 4) _))
 one Bad bound input at rx a two rest = rw (none bound input (length input) rx a (omega arith)) (append-nil badLine)
 one End bound input at rx a two rest = none bound input (length input) rx a (omega arith)
 

@@ -1,12 +1,13 @@
--- What an input asks of a gateway: "event records: kind 16 reception (node 1, ID 2, length 1, data 8), 17 tick (no body), 18 take (node 1)".
+-- What an input asks of a gateway: "event records: kind 16 reception (node 1, ID 2, length 1, data 8), 17 tick (no body), 18 take (node 1)"; for the
+-- calls of a LIN node kind 20 response (node 1, ID 2, length 1, data 8, checksum 1), 21 no response (node 1, ID 2).
 use Prim.Native.Nat.{ℕ, zero, suc, _+_, _-_}
 use mathlib.Core.Bool.{Bool, true, false}
 use mathlib.Core.List.{List, [], _∷_}
 use lib.ListN.{length, replicate}
 use Rattle.events.specs.declared.Event.{Event}
-use Rattle.events.specs.declared.Event.the-variants.{Reception, Tick, Take, Bad, End}
+use Rattle.events.specs.declared.Event.the-variants.{Reception, Tick, Take, Response, NoResponse, Bad, End}
 use Rattle.events.specs.Events.{eventAt, eventSize, payloadAt}
-use Rattle.model.specs.Calls.{Call, reception, tick, take, Step, call}
+use Rattle.model.specs.Calls.{Call, reception, response, noResponse, tick, take, Step, call}
 
 -- the calls, in order, and whether a record behind them is bad
 pub record Asked : Type 0 where
@@ -24,6 +25,8 @@ unfoldable pub askedBy : Event → List ℕ → ℕ → ℕ → Asked → Asked
 askedBy (Reception node id size) input at rx rest = first (reception node id (payloadAt input at)) rest
 askedBy Tick input at rx rest = first (tick (replicate rx 0)) rest
 askedBy (Take node) input at rx rest = first (take node) rest
+askedBy (Response node id size sum) input at rx rest = first (response node id (payloadAt input at) sum) rest
+askedBy (NoResponse node id) input at rx rest = first (noResponse node id) rest
 askedBy Bad input at rx rest = record { steps = []; bad = true }
 askedBy End input at rx rest = nothing
 

@@ -15,22 +15,29 @@ use Rattle.model.specs.Calls.{closed, Step, opening, call}
 use Rattle.base.specs.Numbers.{Bytes}
 use Rattle.listing.specs.Output.{bench, told, linesOf, modelOutput}
 
--- ---- "event records: kind 16 reception (node 1, ID 2, length 1, data 8), 17 tick (no body), 18 take (node 1)"
+-- ---- "event records: kind 16 reception (node 1, ID 2, length 1, data 8), 17 tick (no body), 18 take (node 1)"; for the calls of a LIN node kind 20
+-- response (node 1, ID 2, length 1, data 8, checksum 1), 21 no response (node 1, ID 2)
 
 pub data Entry : Type 0 where
   reception : ℕ → ℕ → ℕ → List ℕ → Entry
   tick : Entry
   take : ℕ → Entry
+  response : ℕ → ℕ → ℕ → List ℕ → ℕ → Entry
+  noResponse : ℕ → ℕ → Entry
 
 unfoldable pub bytesOf : Entry → List ℕ
 bytesOf (reception node id size bytes) = 16 ∷ node ∷ id / 256 ∷ id % 256 ∷ size ∷ bytes
 bytesOf tick = 17 ∷ []
 bytesOf (take node) = 18 ∷ node ∷ []
+bytesOf (response node id size bytes sum) = 20 ∷ node ∷ id / 256 ∷ id % 256 ∷ size ∷ (bytes ++ sum ∷ [])
+bytesOf (noResponse node id) = 21 ∷ node ∷ id / 256 ∷ id % 256 ∷ []
 
 unfoldable pub Whole : Entry → Type 0
 Whole (reception node id size bytes) = length bytes ≡ 8
 Whole tick = Unit {0}
 Whole (take node) = Unit {0}
+Whole (response node id size bytes sum) = length bytes ≡ 8
+Whole (noResponse node id) = Unit {0}
 
 unfoldable pub allBytes : List Entry → List ℕ
 allBytes [] = []
@@ -44,6 +51,8 @@ pub record Broken (xs : List ℕ) : Type 0 where
   pub reception : kind ≡ 16 → length rest < 12
   pub tick : kind ≡ 17 → ⊥
   pub take : kind ≡ 18 → length rest < 1
+  pub response : kind ≡ 20 → length rest < 13
+  pub noResponse : kind ≡ 21 → length rest < 3
 
 -- "plan length (2 bytes), plan, then event records"
 abbrev pub inputOf : List ℕ → List ℕ → List ℕ
@@ -60,6 +69,8 @@ unfoldable pub stepOf : ℕ → Entry → Step
 stepOf rx (reception node id size bytes) = call (calls.reception node id (payloadOf size bytes))
 stepOf rx tick = call (calls.tick (replicate rx 0))
 stepOf rx (take node) = call (calls.take node)
+stepOf rx (response node id size bytes sum) = call (calls.response node id (payloadOf size bytes) sum)
+stepOf rx (noResponse node id) = call (calls.noResponse node id)
 
 unfoldable pub stepsOf : ℕ → List Entry → List Step
 stepsOf rx [] = []

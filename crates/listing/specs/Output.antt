@@ -7,14 +7,17 @@ use Rattle.answers.specs.declared.Opened.the-variants.{Open, Refused}
 use Rattle.events.specs.declared.Front.{Front}
 use Rattle.events.specs.declared.Front.the-variants as front
 use Rattle.events.specs.Events.{frontOf, planOf}
-use Rattle.lines.specs.Lines.{planLine, rxLine, tickLine, takeLine, badLine}
-use Rattle.model.specs.Calls.{Answer, received, ticked, taken, full, closed, Gateway, theModel, Step, opening, Reply, opened, answered, replies}
+use Rattle.lines.specs.Lines.{planLine, rxLine, responseLine, silenceLine, tickLine, takeLine, badLine}
+use Rattle.model.specs.Calls.{Answer, received, responded, silent, ticked, taken, full}
+use Rattle.model.specs.Calls.{closed, Gateway, theModel, Step, opening, Reply, opened, answered, replies}
 use Rattle.listing.specs.Asked.{Asked, nothing, askedFrom}
 
 -- ---- "one line per event"; there is no event for fullness
 
 unfoldable pub answerLine : Answer → List ℕ
 answerLine (received answer) = rxLine answer
+answerLine (responded answer) = responseLine answer
+answerLine (silent answer) = silenceLine answer
 answerLine (ticked answer report) = tickLine answer report
 answerLine (taken answer payload) = takeLine answer payload
 answerLine (full answer) = []

@@ -10,14 +10,18 @@ use lib.ListN.{length, getD}
 use lib.Seq.{ext-getD}
 use Rattle.bits.specs.Payload.{bitAt, differs}
 use Rattle.bits.proofs.CopyLaws.{differs-exactly}
+use Rattle.records.specs.Nodes.{frame}
 use Rattle.plan.specs.Rows.{Source, copy, failure, Claim}
 use Rattle.answers.specs.declared.Received.the-variants.{NoRow}
 use Rattle.model.specs.Plan.{Plan, txIn, rowIn}
 use Rattle.model.specs.State.{State, keptOf, queueOn}
 use Rattle.model.specs.Calls.{reception, received, Running}
-use Rattle.model.specs.Words.{In, Names, Shape}
-use Rattle.model.specs.ReceptionRules.{Copies, Wanted, Differs, Schedules, Puts, InOrder, Becomes, Restarts, Accepts, Misses, ReceptionRules}
-use Rattle.model.proofs.Words.{state-same, those-same, dec-either, dec-both, dec-in}
+use Rattle.model.specs.Words.{In, LinNode, Names, Shape}
+use Rattle.model.specs.ReceptionRules.{Copies, Wanted, Differs, Schedules, Puts, InOrder, Becomes, Recounts, Restarts, Accepts, Misses}
+use Rattle.model.specs.ReceptionRules.{ReceptionRules}
+use Rattle.model.proofs.Words.{state-same, those-same, dec-either, dec-both}
+use Rattle.model.proofs.Entries.{dec-in}
+use Rattle.model.proofs.Nodes.{dec-lin}
 use Rattle.model.proofs.AgreeTicks.{Agree, agree, payloads, named}
 
 -- ---- one destination
@@ -40,9 +44,9 @@ module _ (p : Plan) (payload : List ℕ) where
   module _ (s : State) (c : Claim) (x y : State) (a : Puts p payload c s x) (b : Puts p payload c s y) where
     -- what they do to the queues and the Tx timers
     sends : (W : Type 0) → Dec W → (t : ℕ) → Schedules p W t s x → Schedules p W t s y → (x .queues ≡ y .queues) × (x .txTimers ≡ y .txTimers)
-    sends W d t u v = go d (dec-in t (queueOn s (txIn p t .node)))
+    sends W d t u v = go d (dec-in (frame t) (queueOn s (txIn p t .node)))
       where
-        go : Dec W → Dec (In t (queueOn s (txIn p t .node))) → (x .queues ≡ y .queues) × (x .txTimers ≡ y .txTimers)
+        go : Dec W → Dec (In (frame t) (queueOn s (txIn p t .node))) → (x .queues ≡ y .queues) × (x .txTimers ≡ y .txTimers)
         go (no n) w = (u .unwanted n .0 ∙ sym (v .unwanted n .0), u .unwanted n .1 ∙ sym (v .unwanted n .1))
         go (yes k) (yes i) = (u .waiting i .0 ∙ sym (v .waiting i .0), u .waiting i .1 ∙ sym (v .waiting i .1))
         go (yes k) (no i) = (
@@ -116,16 +120,19 @@ module _ (p : Plan) (payload : List ℕ) where
 -- ---- the call
 
 module _ (p : Plan) where
-  pub restart-shape : (r : ℕ) (s x : State) → Shape p s → Restarts p r s x → Shape p x
-  restart-shape r s x h a =
+  pub recount-shape : (r : ℕ) (s x : State) → Shape p s → Recounts p r s x → length (x .rxTimers) ≡ length (s .rxTimers) → Shape p x
+  recount-shape r s x h a e =
       record {
         kept = ap length (a .kept) ∙ h .kept;
         payload = λ t l. rw (a .kept) (h .payload t l);
         txTimers = ap length (a .txTimers) ∙ h .txTimers;
-        rxTimers = a .rxTimers .size ∙ h .rxTimers;
+        rxTimers = e ∙ h .rxTimers;
         longs = a .longs .size ∙ h .longs;
         queues = ap length (a .queues) ∙ h .queues;
       }
+
+  pub restart-shape : (r : ℕ) (s x : State) → Shape p s → Restarts p r s x → Shape p x
+  restart-shape r s x h a = recount-shape r s x h (a .recounts) (a .rxTimers .size)
 
   becomes : (r v : ℕ) (old x y : List ℕ) → Becomes r v old x → Becomes r v old y → x ≡ y
   becomes r v old x y a b = ext-getD 0 x y (a .size ∙ sym (b .size)) (λ q l. at q (ℕ-discrete q r))
@@ -134,10 +141,13 @@ module _ (p : Plan) where
       at q (yes e) = rw e (a .this ∙ sym (b .this))
       at q (no d) = a .others q d ∙ sym (b .others q d)
 
-  restarts : (r : ℕ) (s x y : State) → Restarts p r s x → Restarts p r s y → x ≡ y
-  restarts r s x y a b =
+  pub recounts : (r : ℕ) (s x y : State) → Recounts p r s x → Recounts p r s y → x .rxTimers ≡ y .rxTimers → x ≡ y
+  recounts r s x y a b e =
       state-same x y (a .number ∙ sym (b .number)) (a .kept ∙ sym (b .kept)) (a .txTimers ∙ sym (b .txTimers))
-      (becomes r _ _ _ _ (a .rxTimers) (b .rxTimers)) (becomes r _ _ _ _ (a .longs) (b .longs)) (a .queues ∙ sym (b .queues))
+      e (becomes r _ _ _ _ (a .longs) (b .longs)) (a .queues ∙ sym (b .queues))
+
+  restarts : (r : ℕ) (s x y : State) → Restarts p r s x → Restarts p r s y → x ≡ y
+  restarts r s x y a b = recounts r s x y (a .recounts) (b .recounts) (becomes r _ _ _ _ (a .rxTimers) (b .rxTimers))
 
   module _ (g h : Running) (s : State) (shape : Shape p s) (n i : ℕ) (payload : List ℕ) where
     accepts : (r : ℕ) → Accepts p g s n i payload r → Accepts p h s n i payload r → Agree g h s (reception n i payload)
@@ -157,16 +167,17 @@ module _ (p : Plan) where
         }
 
     pub reception-agrees : ReceptionRules p g s n i payload → ReceptionRules p h s n i payload → Agree g h s (reception n i payload)
-    reception-agrees a b = go (decLt n (p .nodes)) (decLt 8 (length payload)) (named p g h s shape n i)
+    reception-agrees a b = go (decLt n (p .nodes)) (dec-lin p n) (decLt 8 (length payload)) (named p g h s shape n i)
       where
-        row : n < p .nodes → length payload ≤ 8 → (r : ℕ) → Names p n i r → Dec (length payload < rowIn p r .frame .size)
+        row : n < p .nodes → (LinNode p n → ⊥) → length payload ≤ 8 → (r : ℕ) → Names p n i r → Dec (length payload < rowIn p r .frame .size)
             → Agree g h s (reception n i payload)
-        row l m r x (yes k) = agree p g h s shape (a .short l m r x k) (b .short l m r x k)
-        row l m r x (no k) = accepts r (a .accepted l m r x (omega arith)) (b .accepted l m r x (omega arith))
+        row l c m r x (yes k) = agree p g h s shape (a .short l c m r x k) (b .short l c m r x k)
+        row l c m r x (no k) = accepts r (a .accepted l c m r x (omega arith)) (b .accepted l c m r x (omega arith))
 
-        go : Dec (n < p .nodes) → Dec (8 < length payload) → ((r : ℕ) × Names p n i r) ⊎ ((r : ℕ) → Names p n i r → ⊥)
+        go : Dec (n < p .nodes) → Dec (LinNode p n) → Dec (8 < length payload) → ((r : ℕ) × Names p n i r) ⊎ ((r : ℕ) → Names p n i r → ⊥)
             → Agree g h s (reception n i payload)
-        go (no d) w v = agree p g h s shape (a .refused (omega arith)) (b .refused (omega arith))
-        go (yes l) (yes m) v = agree p g h s shape (a .long l m) (b .long l m)
-        go (yes l) (no m) (inr f) = misses (a .noRow l (omega arith) f) (b .noRow l (omega arith) f)
-        go (yes l) (no m) (inl (r, x)) = row l (omega arith) r x (decLt _ _)
+        go (no d) c w v = agree p g h s shape (a .refused (omega arith)) (b .refused (omega arith))
+        go (yes l) (yes c) w v = agree p g h s shape (a .onLin l c) (b .onLin l c)
+        go (yes l) (no c) (yes m) v = agree p g h s shape (a .long l c m) (b .long l c m)
+        go (yes l) (no c) (no m) (inr f) = misses (a .noRow l c (omega arith) f) (b .noRow l c (omega arith) f)
+        go (yes l) (no c) (no m) (inl (r, x)) = row l c (omega arith) r x (decLt _ _)

@@ -22,7 +22,7 @@ module _ {A B : Type 0} (f : A → B) (d : A) (e : B) where
   mapped-at (x ∷ xs) zero l = refl
   mapped-at (x ∷ xs) (suc i) l = mapped-at xs i (omega arith)
 
-mapped-length : {A B : Type 0} (f : A → B) (xs : List A) → length (mapped f xs) ≡ length xs
+pub mapped-length : {A B : Type 0} (f : A → B) (xs : List A) → length (mapped f xs) ≡ length xs
 unfolding mapped
 mapped-length f [] = refl
 mapped-length f (x ∷ xs) = ap suc (mapped-length f xs)

@@ -19,7 +19,7 @@ use Rattle.refusals.proofs.Exactly.{refused-exactly, good-unrefused}
 use Rattle.answers.specs.declared.Refusal.the-variants.{Plan as BadPlan}
 use Rattle.answers.specs.declared.Opened.the-variants.{Refused}
 use Rattle.model.specs.Plan.{said}
-use Rattle.model.specs.Calls.{Call, reception, tick, take, fullness, World, closed, holding, Gateway, Step}
+use Rattle.model.specs.Calls.{Call, reception, response, noResponse, tick, take, fullness, World, closed, holding, Gateway, Step}
 use Rattle.model.specs.Calls.{opening, call, opened, answered, replyOf, worldAfter, replies, after}
 use Rattle.model.specs.Words.{Shape}
 use Rattle.model.specs.OpeningRules.{Opens, RefusedOpening, Numbered, Closed, OpeningRules}
@@ -109,6 +109,8 @@ module _ (room : ℕ) (g h : Gateway) (a : Meets room g) (b : Meets room h) wher
   step-call : (w : World) → Sound w → (c : Call) → Steps g h w (call c)
   unfolding replyOf worldAfter Sound inside
   step-call closed k (reception n id payload) = shut (a .unopened .reception n id payload) (b .unopened .reception n id payload)
+  step-call closed k (response n id payload sum) = shut (a .unopened .response n id payload sum) (b .unopened .response n id payload sum)
+  step-call closed k (noResponse n id) = shut (a .unopened .noResponse n id) (b .unopened .noResponse n id)
   step-call closed k (tick report) = shut (a .unopened .tick report) (b .unopened .tick report)
   step-call closed k (take n) = shut (a .unopened .take n) (b .unopened .take n)
   step-call closed k (fullness t) = shut (a .unopened .fullness t) (b .unopened .fullness t)

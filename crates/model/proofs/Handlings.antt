@@ -12,7 +12,7 @@ use Rattle.answers.specs.declared.Refusal.{Refusal}
 use Rattle.answers.specs.declared.Ticked.the-variants.{Done, Refused}
 use Rattle.model.specs.Plan.{Plan}
 use Rattle.model.specs.State.{State}
-use Rattle.model.specs.Calls.{tick, Answer, received, ticked, taken, full}
+use Rattle.model.specs.Calls.{tick, Answer, received, responded, silent, ticked, taken, full}
 use Rattle.model.specs.TickRules.{Falls}
 use Rattle.model.specs.Timers.{handlingOf}
 
@@ -22,12 +22,16 @@ unfoldable IsDone : Answer → Type 0
 IsDone (ticked Done given) = Unit {0}
 IsDone (ticked (Refused why) given) = ⊥
 IsDone (received x) = ⊥
+IsDone (responded x) = ⊥
+IsDone (silent x) = ⊥
 IsDone (taken x payload) = ⊥
 IsDone (full x) = ⊥
 
 unfoldable givenIn : Answer → List ℕ
 givenIn (ticked x given) = given
 givenIn (received x) = []
+givenIn (responded x) = []
+givenIn (silent x) = []
 givenIn (taken x payload) = []
 givenIn (full x) = []
 

@@ -24,6 +24,7 @@ use Rattle.model.proofs.Begins.{begins}
 use Rattle.model.proofs.MeetsTake.{meets-take, meets-fullness}
 use Rattle.model.proofs.MeetsTick.{meets-tick}
 use Rattle.model.proofs.MeetsReception.{meets-reception}
+use Rattle.model.proofs.MeetsResponse.{meets-response, meets-silence}
 
 -- ---- opening
 
@@ -55,6 +56,8 @@ unfolding theModel answerFrom nextFrom refusedClosed
 meets-closed room =
     record {
       reception = λ n id payload. record { answer = refl; stays = refl };
+      response = λ n id payload sum. record { answer = refl; stays = refl };
+      noResponse = λ n id. record { answer = refl; stays = refl };
       tick = λ report. record { answer = refl; stays = refl };
       take = λ n. record { answer = refl; stays = refl };
       fullness = λ t. record { answer = refl; stays = refl };
@@ -69,6 +72,8 @@ runs plan good =
     let l = lawful plan good in
     record {
       reception = meets-reception p l;
+      response = meets-response p l;
+      noResponse = meets-silence p l;
       tick = λ s h. meets-tick p l s h;
       take = λ s h. meets-take p s h;
       fullness = λ s h. meets-fullness p s;

@@ -18,7 +18,7 @@ use Rattle.model.specs.Reception.{putBy, put}
 use Rattle.model.specs.Words.{Payload, Shape}
 use Rattle.model.specs.ReceptionRules.{Wanted, Differs, Copies, Schedules, Aside, Puts, InOrder}
 use Rattle.model.proofs.Lawful.{Lawful}
-use Rattle.model.proofs.MeetsRx.{not-failure}
+use Rattle.model.proofs.Failures.{not-failure}
 use Rattle.model.proofs.MeetsSending.{Sched, sends}
 
 module _ (p : Plan) (lawful : Lawful p) where

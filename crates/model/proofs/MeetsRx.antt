@@ -1,8 +1,9 @@
 -- The model's Rx timers in a tick: what the first n turns leave.
 use mathlib.Core.Path.{_≡_, refl, sym, ap, _∙_}
 use mathlib.Core.Logic.{_≢_, _⊎_, inl, inr, ⊎-elim, _↔_}
-use mathlib.Core.List.{List, [], _∷_}
-use Prim.Native.Nat.{ℕ, zero, suc, _+_, _*_, _%_, _≤_, _<_}
+use mathlib.Core.Bool.{Bool, true, false, not}
+use mathlib.Core.List.{List}
+use Prim.Native.Nat.{ℕ, zero, suc, _%_, _≤_, _<_}
 use native.Mathlib.Omega.{arith}
 use native.Mathlib.Decide.{ℕ-discrete}
 use lib.Dec.{eqb}
@@ -10,152 +11,22 @@ use lib.ListN.{length, getD, set, length-set}
 use lib.Seq.{getD-set-same, getD-set-other, set-getD}
 use borrow.Author.Tests.{eq-eqb, ne-eqb}
 use Rattle.base.specs.Pick.{pick}
-use Rattle.base.proofs.Picks.{by-eqb, picks, passes}
-use Rattle.bits.specs.Payload.{bitAt, setBit}
-use Rattle.bits.proofs.PayloadLaws.{length-setBit, bitAt-setBit-same, bitAt-setBit-other, bytes-setBit}
+use Rattle.base.proofs.Picks.{cases, by-eqb, picks, passes}
+use Rattle.bits.specs.Payload.{bitAt}
 use Rattle.clock.specs.Timer.{lowered}
-use Rattle.plan.specs.Rows.{Source, copy, failure, widthOf, Claim}
-use Rattle.facts.specs.Good.{Each}
-use Rattle.model.specs.Plan.{Plan, rowIn}
-use Rattle.model.specs.State.{State, keptOf, withKept}
-use Rattle.model.specs.Tick.{failedBy, failed, expired, rxLowered, handled, rxTurn, rxTurns}
-use Rattle.model.specs.Words.{In, Payload, Shape}
-use Rattle.model.specs.TickRules.{Fails}
+use Rattle.records.specs.declared.record.Entry.{Entry}
+use Rattle.records.specs.Nodes.{request}
+use Rattle.model.specs.Plan.{Plan, rowIn, onLin}
+use Rattle.model.specs.State.{State, keptOf, queueOn}
+use Rattle.model.specs.Scheduling.{isIn, asked, requested}
+use Rattle.model.specs.Tick.{failed, expired, rxExpiry, rxLowered, handled, rxTurn, rxTurns}
+use Rattle.model.specs.Words.{LinRow, Shape}
+use Rattle.model.specs.TickRules.{Indicates, Fails}
 use Rattle.model.proofs.Lawful.{Lawful}
-
-kind : Source → ℕ
-kind (copy p s) = 0
-kind failure = 1
-
-pub not-failure : (p s : ℕ) {z : Source} → z ≡ copy p s → z ≡ failure → ⊥
-unfolding kind
-not-failure p s e f = let k : _≡_ {A = ℕ} 0 1 = ap kind (sym e ∙ f) in omega arith
-
--- ---- payloads with some bits set
-
-pub record Kept (p : Plan) (x : State) : Type 0 where
-  pub kept : length (x .kept) ≡ length (p .tx)
-  pub payload : (t : ℕ) → t < length (p .tx) → Payload (keptOf x t)
-
--- z is x but that the bits which P names are 1
-pub record Sets (p : Plan) (P : ℕ → ℕ → Type 0) (x z : State) : Type 0 where
-  pub shape : Kept p z
-  pub number : z .number ≡ x .number
-  pub txTimers : z .txTimers ≡ x .txTimers
-  pub rxTimers : z .rxTimers ≡ x .rxTimers
-  pub longs : z .longs ≡ x .longs
-  pub queues : z .queues ≡ x .queues
-  pub bits : (t b : ℕ) → t < length (p .tx) → b < 64
-      → (bitAt (p .order) (keptOf z t) b ≡ 1) ↔ ((bitAt (p .order) (keptOf x t) b ≡ 1) ⊎ P t b)
-
-module _ (p : Plan) where
-  sets-none : {P : ℕ → ℕ → Type 0} {x : State} → Kept p x → ((t b : ℕ) → P t b → ⊥) → Sets p P x x
-  sets-none k f =
-      record {
-        shape = k;
-        number = refl;
-        txTimers = refl;
-        rxTimers = refl;
-        longs = refl;
-        queues = refl;
-        bits = λ t b l m. (inl, λ w. ⊎-elim (λ e. e) (λ q. absurd (f t b q)) w);
-      }
-
-  sets-then : {P Q R : ℕ → ℕ → Type 0} {x y z : State} → Sets p P x y → Sets p Q y z
-      → ((t b : ℕ) → R t b → P t b ⊎ Q t b) → ((t b : ℕ) → P t b ⊎ Q t b → R t b) → Sets p R x z
-  sets-then a c f g =
-      record {
-        shape = c .shape;
-        number = c .number ∙ a .number;
-        txTimers = c .txTimers ∙ a .txTimers;
-        rxTimers = c .rxTimers ∙ a .rxTimers;
-        longs = c .longs ∙ a .longs;
-        queues = c .queues ∙ a .queues;
-        bits =
-            λ t b l m.
-            let u = a .bits t b l m in
-            let v = c .bits t b l m in (
-              (λ e. ⊎-elim (λ e. ⊎-elim (λ e. inl e) (λ q. inr (g t b (inl q))) (u .0 e)) (λ q. inr (g t b (inr q))) (v .0 e)),
-              (λ w. ⊎-elim (λ e. v .1 (inl (u .1 (inl e)))) (λ r. ⊎-elim (λ q. v .1 (inl (u .1 (inr q)))) (λ q. v .1 (inr q)) (f t b r)) w),
-            );
-      }
-
-  -- one bit
-  module _ (x : State) (k : Kept p x) (c : Claim) (l : c .tx < length (p .tx)) (m : c .at < 64) where
-    abbrev old : List ℕ
-    old = keptOf x (c .tx)
-
-    abbrev new : List ℕ
-    new = setBit (p .order) old (c .at) 1
-
-    room : c .at < 8 * length old
-    room = omega (arith, k .payload (c .tx) l .eight)
-
-    there : keptOf (withKept x (c .tx) new) (c .tx) ≡ new
-    there = getD-set-same (x .kept) (c .tx) new [] (omega (arith, k .kept))
-
-    other : (t : ℕ) → t ≢ c .tx → keptOf (withKept x (c .tx) new) t ≡ keptOf x t
-    other t d = getD-set-other (x .kept) (c .tx) t new [] d
-
-    sets-bit : Sets p (λ t b. (c .tx ≡ t) × (c .at ≡ b)) x (withKept x (c .tx) new)
-    sets-bit =
-        record {
-          shape =
-              record {
-                kept = length-set (x .kept) (c .tx) new ∙ k .kept;
-                payload = λ t h. shaped t h (ℕ-discrete t (c .tx));
-              };
-          number = refl;
-          txTimers = refl;
-          rxTimers = refl;
-          longs = refl;
-          queues = refl;
-          bits = λ t b h i. bits t b (ℕ-discrete t (c .tx)) (ℕ-discrete b (c .at));
-        }
-      where
-        shaped : (t : ℕ) → t < length (p .tx) → Dec (t ≡ c .tx) → Payload (keptOf (withKept x (c .tx) new) t)
-        shaped t h (yes e) =
-            rw (e, there)
-            (record {
-              eight = length-setBit (p .order) old (c .at) 1 ∙ k .payload (c .tx) l .eight;
-              bytes = bytes-setBit (p .order) old (c .at) 1 room (omega arith) (k .payload (c .tx) l .bytes);
-            })
-        shaped t h (no d) = rw (other t d) (k .payload t h)
-
-        bits : (t b : ℕ) → Dec (t ≡ c .tx) → Dec (b ≡ c .at)
-            → (bitAt (p .order) (keptOf (withKept x (c .tx) new) t) b ≡ 1) ↔ ((bitAt (p .order) (keptOf x t) b ≡ 1) ⊎ ((c .tx ≡ t) × (c .at ≡ b)))
-        bits t b (no d) w = rw (other t d) (inl, λ v. ⊎-elim (λ e. e) (λ q. absurd (d (sym (q .0)))) v)
-        bits t b (yes e) (no d) =
-            rw (e, there, bitAt-setBit-other (p .order) old (c .at) 1 b room (omega arith) d) (inl, λ v. ⊎-elim (λ e. e) (λ q. absurd (d (sym (q .1)))) v)
-        bits t b (yes e) (yes f) =
-            rw (e, f, there, bitAt-setBit-same (p .order) old (c .at) 1 room (omega arith)) ((λ g. inr (refl, refl)), (λ v. refl))
-
-  -- ---- an expiry's claims
-
-  abbrev pub Names : List Claim → ℕ → ℕ → Type 0
-  Names cs t b = (c : Claim) × In c cs × (c .from ≡ failure) × (c .tx ≡ t) × (c .at ≡ b)
-
-  step : (x : State) → Kept p x → (c : Claim) → c .tx < length (p .tx) → c .at + widthOf (c .from) ≤ 64
-      → Sets p (λ t b. (c .from ≡ failure) × (c .tx ≡ t) × (c .at ≡ b)) x (failedBy p x c (c .from))
-  unfolding failedBy widthOf
-  step x k c l m = go (c .from) refl m
-    where
-      go : (z : Source) → c .from ≡ z → c .at + widthOf z ≤ 64 → Sets p (λ t b. (c .from ≡ failure) × (c .tx ≡ t) × (c .at ≡ b)) x (failedBy p x c z)
-      go (copy q s) e i = sets-none k (λ t b w. not-failure q s e (w .0))
-      go failure e i =
-          let Old : ℕ → ℕ → Type 0 = λ t b. ⊥ in
-          sets-then (sets-none {P = Old} k (λ t b w. w)) (sets-bit x k c l (omega arith))
-          (λ t b w. inr (w .1, w .2)) (λ t b w. ⊎-elim (λ v. absurd v) (λ v. (e, v .0, v .1)) w)
-
-  pub sets-failed : (cs : List Claim) (x : State) → Kept p x → Each (λ c. c .tx < length (p .tx)) cs → Each (λ c. c .at + widthOf (c .from) ≤ 64) cs
-      → Sets p (Names cs) x (failed p x cs)
-  unfolding failed Each In
-  sets-failed [] x k f g = sets-none k (λ t b w. w .1)
-  sets-failed (c ∷ cs) x k f g =
-      let a = step x k c (f .0) (g .0) in
-      sets-then a (sets-failed cs _ (a .shape) (f .1) (g .1))
-      (λ t b w. ⊎-elim (λ e. inl (rw e at (w .2), rw e at (w .3), rw e at (w .4))) (λ i. inr (w .0, i, w .2, w .3, w .4)) (w .1))
-      (λ t b w. ⊎-elim (λ v. (c, inl refl, v .0, v .1, v .2)) (λ v. (v .0, inr (v .1), v .2, v .3, v .4)) w)
+use Rattle.model.proofs.Nodes.{lin-on, lin-off, by-lin}
+use Rattle.model.proofs.Entries.{request-one}
+use Rattle.model.proofs.Joining.{Joined, stays as line-stays, joins as line-joins, waits}
+use Rattle.model.proofs.Failures.{Kept, Sets, sets-none, sets-indicated}
 
 -- ---- the turns: s is the state before the tick, y that after the Tx timers
 
@@ -166,8 +37,22 @@ module _ (p : Plan) (lawful : Lawful p) (s : State) (shape : Shape p s) (y : Sta
   unfoldable pub longAfter : ℕ → ℕ
   longAfter r =
       pick (eqb (s .number % rowIn p r .frame .prescaler) 0)
-      (pick (eqb (getD (s .rxTimers) r 0) 1) (lowered (rowIn p r .frame .long) (getD (s .longs) r 0)) (getD (s .longs) r 0))
+      (pick (eqb (getD (s .rxTimers) r 0) 1)
+      (pick (onLin p (rowIn p r .frame .node)) (getD (s .longs) r 0) (lowered (rowIn p r .frame .long) (getD (s .longs) r 0)))
+      (getD (s .longs) r 0))
       (getD (s .longs) r 0)
+
+  -- Rx frame r expires, is of LIN node m, and its request does not wait there
+  unfoldable pub askedOn : ℕ → ℕ → Bool
+  askedOn m r =
+      pick (eqb (s .number % rowIn p r .frame .prescaler) 0)
+      (pick (eqb (getD (s .rxTimers) r 0) 1)
+      (pick (eqb (rowIn p r .frame .node) m) (pick (onLin p m) (not (isIn (request r) (queueOn y m))) false) false)
+      false)
+      false
+
+  abbrev pub InLine : ℕ → List (List Entry) → Type 0
+  InLine n queues = Joined request (p .nodes) (λ m. queueOn y m) askedOn n queues
 
   -- an expiry of one of the first n rows sets the bit
   abbrev pub FailsBelow : ℕ → ℕ → ℕ → Type 0
@@ -176,7 +61,8 @@ module _ (p : Plan) (lawful : Lawful p) (s : State) (shape : Shape p s) (y : Sta
   pub record RxDone (n : ℕ) (x : State) : Type 0 where
     pub held : Kept p x
     pub number : x .number ≡ s .number
-    pub queues : x .queues ≡ y .queues
+    pub lines : length (x .queues) ≡ p .nodes
+    pub queue : InLine n (x .queues)
     pub txTimers : x .txTimers ≡ y .txTimers
     pub timers : length (x .rxTimers) ≡ length (s .rxTimers)
     pub counters : length (x .longs) ≡ length (s .longs)
@@ -188,8 +74,9 @@ module _ (p : Plan) (lawful : Lawful p) (s : State) (shape : Shape p s) (y : Sta
         → (bitAt (p .order) (keptOf x t) b ≡ 1) ↔ ((bitAt (p .order) (keptOf s t) b ≡ 1) ⊎ FailsBelow n t b)
 
   module _ (n : ℕ) (l : n < length (p .rows)) (x : State) (d : RxDone n x) where
-    -- x with timer n at v and long counter n at w, and the payloads of z
-    turned : {P : ℕ → ℕ → Type 0} (v w : ℕ) (z : State) → Sets p P x z → v ≡ rxAfter n → w ≡ longAfter n
+    -- x with timer n at v, long counter n at w, the payloads of z, and some queues
+    turned : {P : ℕ → ℕ → Type 0} (v w : ℕ) (z : State) (q : List (List Entry)) → Sets p P x z → v ≡ rxAfter n → w ≡ longAfter n
+        → length q ≡ p .nodes → InLine (suc n) q
         → ((t b : ℕ) → P t b → FailsBelow (suc n) t b) → ((t b : ℕ) → (f : Fails p s t b) → f .row ≡ n → P t b)
         → RxDone (suc n)
         (record {
@@ -198,13 +85,14 @@ module _ (p : Plan) (lawful : Lawful p) (s : State) (shape : Shape p s) (y : Sta
           txTimers = x .txTimers;
           rxTimers = set (x .rxTimers) n v;
           longs = set (x .longs) n w;
-          queues = x .queues;
+          queues = q;
         })
-    turned {P} v w z a e f g h =
+    turned {P} v w z q a e f k j g h =
         record {
           held = record { kept = a .shape .kept; payload = a .shape .payload };
           number = d .number;
-          queues = d .queues;
+          lines = k;
+          queue = j;
           txTimers = d .txTimers;
           timers = length-set (x .rxTimers) n v ∙ d .timers;
           counters = length-set (x .longs) n w ∙ d .counters;
@@ -238,67 +126,125 @@ module _ (p : Plan) (lawful : Lawful p) (s : State) (shape : Shape p s) (y : Sta
     abbrev period : ℕ
     period = s .number % rowIn p n .frame .prescaler
 
+    abbrev home : ℕ
+    home = rowIn p n .frame .node
+
     abbrev Nothing : ℕ → ℕ → Type 0
     Nothing t b = ⊥
 
-    -- no expiry
-    calm : (v : ℕ) → v ≡ rxAfter n → longAfter n ≡ getD (s .longs) n 0 → (period ≡ 0 → own ≡ 1 → ⊥)
+    -- no timeout, and some queues
+    calm : (v : ℕ) (q : List (List Entry)) → v ≡ rxAfter n → longAfter n ≡ getD (s .longs) n 0 → length q ≡ p .nodes → InLine (suc n) q
+        → (period ≡ 0 → own ≡ 1 → (LinRow p n → ⊥) → ⊥)
         → RxDone (suc n)
-        (record { number = x .number; kept = x .kept; txTimers = x .txTimers; rxTimers = set (x .rxTimers) n v; longs = x .longs; queues = x .queues })
-    calm v e f g =
+        (record { number = x .number; kept = x .kept; txTimers = x .txTimers; rxTimers = set (x .rxTimers) n v; longs = x .longs; queues = q })
+    calm v q e f k j g =
         let z =
-        turned {P = Nothing} v (getD (x .longs) n 0) x (sets-none p (d .held) (λ t b q. q)) e (d .longLater n (omega arith) ∙ sym f)
-        (λ t b q. absurd q) (λ t b m q. g (rw q at (m .expires .handled)) (rw q at (m .expires .last))) in
+        turned {P = Nothing} v (getD (x .longs) n 0) x q (sets-none p (d .held) (λ t b w. w)) e (d .longLater n (omega arith) ∙ sym f) k j
+        (λ t b w. absurd w)
+        (λ t b m w. let o = m .timesOut in g (rw w at (o .expires .handled)) (rw w at (o .expires .last)) (rw w at (o .notLin))) in
         rw (set-getD (x .longs) n 0) at z
 
+    -- nothing is asked for
+    unasked : ((m : ℕ) → m < p .nodes → askedOn m n ≡ false) → InLine (suc n) (x .queues)
+    unasked f = line-stays request (p .nodes) (λ m. queueOn y m) askedOn n (x .queues) (d .queue) f
+
     unhandled : period ≢ 0 → RxDone (suc n) x
-    unfolding rxAfter longAfter
+    unfolding rxAfter longAfter askedOn
     unhandled k =
         let f = ne-eqb period 0 k in
-        let z = calm (getD (x .rxTimers) n 0) (d .later n (omega arith) ∙ sym (passes _ _ _ f)) (passes _ _ _ f) (λ e g. k e) in
+        let z =
+        calm (getD (x .rxTimers) n 0) (x .queues) (d .later n (omega arith) ∙ sym (passes _ _ _ f)) (passes _ _ _ f) (d .lines)
+        (unasked (λ m i. passes _ _ _ f)) (λ e g c. k e) in
         rw (set-getD (x .rxTimers) n 0) at z
 
     falls : period ≡ 0 → own ≢ 1 → RxDone (suc n) (rxLowered p x n)
-    unfolding rxAfter longAfter rxLowered
+    unfolding rxAfter longAfter askedOn rxLowered
     falls e k =
         let f = eq-eqb period 0 e in
-        calm _ (ap (lowered (rowIn p n .frame .reload)) (d .later n (omega arith)) ∙ sym (picks _ _ _ f))
-        (picks _ _ _ f ∙ passes _ _ _ (ne-eqb own 1 k)) (λ q g. k g)
+        let o = ne-eqb own 1 k in
+        calm _ (x .queues) (ap (lowered (rowIn p n .frame .reload)) (d .later n (omega arith)) ∙ sym (picks _ _ _ f))
+        (picks _ _ _ f ∙ passes _ _ _ o) (d .lines) (unasked (λ m i. picks _ _ _ f ∙ passes _ _ _ o)) (λ q g c. k g)
 
-    expires : period ≡ 0 → own ≡ 1 → RxDone (suc n) (expired p (rxLowered p x n) n)
-    unfolding rxAfter longAfter expired rxLowered
-    expires e k =
-        let f = eq-eqb period 0 e in
-        let low : State = rxLowered p x n in
-        let a = sets-failed p (rowIn p n .claims) low (record { kept = d .held .kept; payload = d .held .payload }) (lawful .frame n l) (lawful .bits n l) in
-        let b :
-        Sets p (Names p (rowIn p n .claims)) x
-        (record {
-          number = x .number;
-          kept = failed p low (rowIn p n .claims) .kept;
-          txTimers = x .txTimers;
-          rxTimers = x .rxTimers;
-          longs = x .longs;
-          queues = x .queues;
-        }) =
-        record {
-          shape = record { kept = a .shape .kept; payload = a .shape .payload };
-          number = refl;
-          txTimers = refl;
-          rxTimers = refl;
-          longs = refl;
-          queues = refl;
-          bits = a .bits;
-        } in
-        let z =
-        turned {P = Names p (rowIn p n .claims)} _ _ _ b (ap (lowered (rowIn p n .frame .reload)) (d .later n (omega arith)) ∙ sym (picks _ _ _ f))
-        (ap (lowered (rowIn p n .frame .long)) (d .longLater n (omega arith)) ∙ sym (picks _ _ _ f ∙ picks _ _ _ (eq-eqb own 1 k)))
-        (λ t b w. (
-          record { row = n; expires = record { frame = l; handled = e; last = k }; claim = w .0; there = w .1; indicator = w .2; tx = w .3; at = w .4 },
-          omega arith,
-        ))
-        (λ t b m q. (m .claim, rw q at (m .there), m .indicator, m .tx, m .at)) in
-        rw (a .number, a .txTimers, a .rxTimers, a .longs, a .queues) z
+    module _ (e : period ≡ 0) (k : own ≡ 1) where
+      low : lowered (rowIn p n .frame .reload) (getD (x .rxTimers) n 0) ≡ rxAfter n
+      unfolding rxAfter
+      low = ap (lowered (rowIn p n .frame .reload)) (d .later n (omega arith)) ∙ sym (picks _ _ _ (eq-eqb period 0 e))
+
+      long : longAfter n ≡ pick (onLin p home) (getD (s .longs) n 0) (lowered (rowIn p n .frame .long) (getD (s .longs) n 0))
+      unfolding longAfter
+      long = picks _ _ _ (eq-eqb period 0 e) ∙ picks _ _ _ (eq-eqb own 1 k)
+
+      asks : (m : ℕ) → askedOn m n ≡ pick (eqb home m) (pick (onLin p m) (not (isIn (request n) (queueOn y m))) false) false
+      unfolding askedOn
+      asks m = picks _ _ _ (eq-eqb period 0 e) ∙ picks _ _ _ (eq-eqb own 1 k)
+
+      -- on a node that is not LIN
+      expires : (LinRow p n → ⊥) → RxDone (suc n) (expired p (rxLowered p x n) n)
+      unfolding expired rxLowered
+      expires c =
+          let low-state : State = rxLowered p x n in
+          let a = sets-indicated p lawful n l low-state (record { kept = d .held .kept; payload = d .held .payload }) in
+          let b :
+          Sets p (Indicates p n) x
+          (record {
+            number = x .number;
+            kept = failed p low-state (rowIn p n .claims) .kept;
+            txTimers = x .txTimers;
+            rxTimers = x .rxTimers;
+            longs = x .longs;
+            queues = x .queues;
+          }) =
+          record {
+            shape = record { kept = a .shape .kept; payload = a .shape .payload };
+            number = refl;
+            txTimers = refl;
+            rxTimers = refl;
+            longs = refl;
+            queues = refl;
+            bits = a .bits;
+          } in
+          let z =
+          turned {P = Indicates p n} _ _ _ (x .queues) b low
+          (ap (lowered (rowIn p n .frame .long)) (d .longLater n (omega arith)) ∙ sym (long ∙ passes _ _ _ (lin-off p home c))) (d .lines)
+          (unasked (λ m i. asks m ∙ by-eqb (λ w. w ≡ false) home m _ _ (λ j. rw (← j) (passes _ _ _ (lin-off p home c))) (λ j. refl)))
+          (λ t b w. (
+            record { row = n; timesOut = record { expires = record { frame = l; handled = e; last = k }; notLin = c }; indicates = w },
+            omega arith,
+          ))
+          (λ t b m q. rw q at (m .indicates)) in
+          rw (a .number, a .txTimers, a .rxTimers, a .longs, a .queues) z
+
+      -- on a LIN node
+      module _ (c : LinRow p n) where
+        as-before : (m : ℕ) → m < p .nodes → isIn (request n) (queueOn x m) ≡ isIn (request n) (queueOn y m)
+        as-before = waits request (p .nodes) (λ m. queueOn y m) askedOn n (x .queues) (d .queue) (λ q r. request-one)
+
+        waiting : isIn (request n) (queueOn x home) ≡ true → (m : ℕ) → m < p .nodes → askedOn m n ≡ false
+        waiting w m i =
+            asks m
+            ∙ by-eqb (λ z. z ≡ false) home m _ _
+            (λ j.
+            let here : isIn (request n) (queueOn x m) ≡ true = rw (← j) w in
+            picks _ _ _ (rw (← j) (lin-on p home c)) ∙ ap not (sym (as-before m i) ∙ here))
+            (λ j. refl)
+
+        requests : RxDone (suc n) (requested p (rxLowered p x n) n)
+        unfolding requested asked rxLowered
+        requests =
+            cases (RxDone (suc n)) (isIn (request n) (queueOn x home)) _ _
+            (λ w.
+            calm _ (x .queues) low (long ∙ picks _ _ _ (lin-on p home c)) (d .lines) (unasked (waiting w)) (λ e k o. o c))
+            (λ w.
+            calm _ _ low (long ∙ picks _ _ _ (lin-on p home c)) (length-set (x .queues) home _ ∙ d .lines)
+            (line-joins request (p .nodes) (λ m. queueOn y m) askedOn n (x .queues) (d .queue) home (d .lines)
+            (λ i.
+            asks home ∙ picks _ _ _ (eq-eqb home home refl) ∙ picks _ _ _ (lin-on p home c) ∙ ap not (sym (as-before home i) ∙ w))
+            (λ m j. asks m ∙ passes _ _ _ (ne-eqb home m (λ q. j (sym q)))))
+            (λ e k o. o c))
+
+      expiry : RxDone (suc n) (rxExpiry p (rxLowered p x n) n)
+      unfolding rxExpiry
+      expiry = by-lin p home (RxDone (suc n)) _ _ requests expires
 
     pub turn : RxDone (suc n) (rxTurn p x n)
     unfolding rxTurn handled
@@ -306,7 +252,7 @@ module _ (p : Plan) (lawful : Lawful p) (s : State) (shape : Shape p s) (y : Sta
         let e : period ≡ x .number % rowIn p n .frame .prescaler = ap (λ k. k % rowIn p n .frame .prescaler) (sym (d .number)) in
         let f : own ≡ getD (x .rxTimers) n 0 = sym (d .later n (omega arith)) in
         by-eqb (RxDone (suc n)) (x .number % rowIn p n .frame .prescaler) 0 _ _
-        (λ i. by-eqb (RxDone (suc n)) (getD (x .rxTimers) n 0) 1 _ _ (λ k. expires (e ∙ i) (f ∙ k)) (λ k. falls (e ∙ i) (λ z. k (sym f ∙ z))))
+        (λ i. by-eqb (RxDone (suc n)) (getD (x .rxTimers) n 0) 1 _ _ (λ k. expiry (e ∙ i) (f ∙ k)) (λ k. falls (e ∙ i) (λ z. k (sym f ∙ z))))
         (λ i. unhandled (λ z. i (sym e ∙ z)))
 
   pub turns : RxDone 0 y → (n : ℕ) → n ≤ length (p .rows) → RxDone n (rxTurns p n y)

@@ -9,6 +9,7 @@ use native.Mathlib.Decide.{ℕ-discrete}
 use lib.ListN.{length, length-set}
 use lib.Seq.{getD-set-same, getD-set-other}
 use Rattle.base.proofs.Picks.{cases, by-eqb}
+use Rattle.records.specs.Nodes.{frame}
 use Rattle.model.specs.Plan.{Plan, txIn}
 use Rattle.model.specs.State.{State, queueOn}
 use Rattle.model.specs.Scheduling.{isIn, joined, scheduled}
@@ -16,7 +17,7 @@ use Rattle.model.specs.Reception.{sentIf}
 use Rattle.model.specs.Words.{In}
 use Rattle.model.specs.ReceptionRules.{OnReception, OnChange, Schedules, Aside}
 use Rattle.model.proofs.Lawful.{Lawful}
-use Rattle.model.proofs.Upto.{in-isIn, isIn-in}
+use Rattle.model.proofs.Entries.{in-isIn, isIn-in}
 
 module _ (p : Plan) (lawful : Lawful p) where
   -- x is u but for what scheduling changes
@@ -28,7 +29,7 @@ module _ (p : Plan) (lawful : Lawful p) where
     pub timers : length (x .txTimers) ≡ length (u .txTimers)
 
   -- nothing is sent: it is not wanted, or the frame waits already
-  still : {W : Type 0} (t : ℕ) (u : State) → (W → (In t (queueOn u (txIn p t .node)) → ⊥) → ⊥) → Sched W t u u
+  still : {W : Type 0} (t : ℕ) (u : State) → (W → (In (frame t) (queueOn u (txIn p t .node)) → ⊥) → ⊥) → Sched W t u u
   still t u n =
       record {
         schedules =
@@ -49,19 +50,19 @@ module _ (p : Plan) (lawful : Lawful p) where
   wanted : {W : Type 0} (t : ℕ) (u : State) → t < length (p .tx) → length (u .queues) ≡ p .nodes → length (u .txTimers) ≡ length (p .tx) → W
       → Sched W t u (scheduled p u t)
   unfolding scheduled joined
-  wanted {W} t u l q k w = cases (Sched W t u) (isIn t (queueOn u (txIn p t .node))) _ _ waits joins
+  wanted {W} t u l q k w = cases (Sched W t u) (isIn (frame t) (queueOn u (txIn p t .node))) _ _ waits joins
     where
-      waits : isIn t (queueOn u (txIn p t .node)) ≡ true → Sched W t u u
-      waits e = still t u (λ w n. n (isIn-in t _ e))
+      waits : isIn (frame t) (queueOn u (txIn p t .node)) ≡ true → Sched W t u u
+      waits e = still t u (λ w n. n (isIn-in (frame t) _ e))
 
-      joins : isIn t (queueOn u (txIn p t .node)) ≡ false → Sched W t u (joined p u t)
+      joins : isIn (frame t) (queueOn u (txIn p t .node)) ≡ false → Sched W t u (joined p u t)
       joins e =
           record {
             schedules =
                 record {
                   joins = λ w n. getD-set-same (u .queues) (txIn p t .node) _ [] (omega (arith, lawful .node t l));
                   reloads = λ w n. getD-set-same (u .txTimers) t _ 0 (omega arith);
-                  waiting = λ i. absurd (true≢false (sym (in-isIn t _ i) ∙ e));
+                  waiting = λ i. absurd (true≢false (sym (in-isIn (frame t) _ i) ∙ e));
                   unwanted = λ n. absurd (n w);
                   others = λ m d. getD-set-other (u .queues) (txIn p t .node) m _ [] d;
                   timers = λ m d. getD-set-other (u .txTimers) t m _ 0 d;

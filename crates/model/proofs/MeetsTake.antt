@@ -3,48 +3,65 @@ use mathlib.Core.Path.{_≡_, refl}
 use mathlib.Core.Logic.{inl, inr, ⊎-elim}
 use mathlib.Core.Bool.{Bool, true, false, false≢true}
 use mathlib.Core.List.{List, [], _∷_}
-use Prim.Native.Nat.{ℕ, zero, suc, _+_}
+use Prim.Native.Nat.{ℕ, zero, suc, _+_, _<_}
 use native.Mathlib.Omega.{arith}
 use lib.Dec.{eqb, leb, ltb}
 use lib.ListN.{length, length-append, length-set}
 use lib.Seq.{getD-set-same, getD-set-other}
 use borrow.Author.Tests.{lt-ltb, le-ltb, le-leb, eq-eqb, eqb-true, leb-true, ltb-true}
 use Rattle.base.specs.Pick.{pick}
-use Rattle.base.proofs.Picks.{cases, into}
+use Rattle.base.proofs.Picks.{cases, into, picks, passes}
+use Rattle.records.specs.declared.record.Entry.{Entry}
+use Rattle.records.specs.Nodes.{frame, request}
 use Rattle.bits.proofs.CopyLaws.{either, or-right}
 use Rattle.plan.specs.Rows.{widthOf, Claim, allClaims}
 use Rattle.facts.specs.Good.{Holds}
-use Rattle.model.specs.Plan.{Plan}
-use Rattle.model.specs.State.{State}
-use Rattle.model.specs.Take.{takenAnswer, takenPayload, taken, oldestAnswer, oldestPayload, withoutOldest}
+use Rattle.model.specs.Plan.{Plan, txIn}
+use Rattle.model.specs.State.{State, queueOn}
+use Rattle.model.specs.Take.{handed, framingOf, entryAnswer, takenAnswer, takenPayload, taken, oldestAnswer, oldestPayload, withoutOldest}
 use Rattle.model.specs.Fullness.{isHeld, ownedBelow, fullnessOf}
-use Rattle.model.specs.Calls.{take, fullness, running, answerOf, nextOf}
+use Rattle.model.specs.Calls.{running, answerOf, nextOf}
 use Rattle.model.specs.Words.{In, Shape}
-use Rattle.model.specs.TakeRules.{TakeRules}
+use Rattle.model.specs.TakeRules.{Takes, TakeRules}
 use Rattle.model.specs.FullnessRules.{FullnessRules}
+use Rattle.model.proofs.Nodes.{lin-on, lin-off}
 use Rattle.model.proofs.Upto.{upto, those-upto}
 
 module _ (p : Plan) (s : State) (shape : Shape p s) where
-  pub meets-take : (n : ℕ) → TakeRules p (running p) s n
+  takes : (n : ℕ) → n < p .nodes → (x : Entry) (rest : List Entry) → queueOn s n ≡ x ∷ rest
+      → Takes (running p) s n rest (entryAnswer p s n x (length rest)) (handed p s x)
   unfolding running answerOf nextOf takenAnswer takenPayload taken pick oldestAnswer oldestPayload withoutOldest
+  takes n l x rest q =
+      let e = lt-ltb n (p .nodes) l in
+      record {
+        answer = rw (e, q);
+        leaves = rw (e, q) (getD-set-same (s .queues) n rest [] (omega (arith, shape .queues)));
+        others = λ m d. rw (e, q) (getD-set-other (s .queues) n m rest [] d);
+        queues = rw (e, q) (length-set (s .queues) n rest);
+        number = rw (e, q);
+        kept = rw (e, q);
+        txTimers = rw (e, q);
+        rxTimers = rw (e, q);
+        longs = rw (e, q);
+      }
+
+  pub meets-take : (n : ℕ) → TakeRules p (running p) s n
+  unfolding running answerOf nextOf takenAnswer takenPayload taken pick oldestAnswer oldestPayload withoutOldest entryAnswer framingOf handed
   meets-take n =
       record {
         refused = λ l. let e = le-ltb n (p .nodes) l in record { answer = rw e; stays = rw e };
         none = λ l q. let e = lt-ltb n (p .nodes) l in record { answer = rw (e, q); stays = rw (e, q) };
-        oldest =
+        oldestFrame =
             λ l t rest q.
-            let e = lt-ltb n (p .nodes) l in
             record {
-              answer = rw (e, q);
-              leaves = rw (e, q) (getD-set-same (s .queues) n rest [] (omega (arith, shape .queues)));
-              others = λ m d. rw (e, q) (getD-set-other (s .queues) n m rest [] d);
-              queues = rw (e, q) (length-set (s .queues) n rest);
-              number = rw (e, q);
-              kept = rw (e, q);
-              txTimers = rw (e, q);
-              rxTimers = rw (e, q);
-              longs = rw (e, q);
+              payload = handed p s (frame t);
+              whole = refl;
+              framing = framingOf p n (txIn p t .id) (handed p s (frame t));
+              takes = takes n l (frame t) rest q;
+              can = λ c. passes _ _ _ (lin-off p n c);
+              lin = λ c. picks _ _ _ (lin-on p n c);
             };
+        oldestRequest = λ l r rest q. takes n l (request r) rest q;
       }
 
 -- ---- fullness

@@ -1,28 +1,29 @@
 -- The model meets the rules of a tick.
 use mathlib.Core.Path.{_≡_, refl, sym, ap, _∙_}
 use mathlib.Core.Logic.{inl, inr, ⊎-elim}
-use mathlib.Core.Bool.{Bool, true, false, not, false≢true, true≢false}
-use mathlib.Core.List.{List, []}
-use Prim.Native.Nat.{ℕ, zero, suc, _+_, _%_, _≤_, _<_}
+use mathlib.Core.Bool.{true, false≢true, true≢false}
+use mathlib.Core.List.{List, _++_, map, append-nil}
+use Prim.Native.Nat.{ℕ, _+_, _%_, _<_}
 use native.Mathlib.Omega.{arith}
-use native.Mathlib.Decide.{ℕ-discrete}
-use lib.ListN.{length, getD, set, length-set}
-use lib.Seq.{getD-set-same, getD-set-other}
+use lib.ListN.{length, getD}
 use borrow.Author.Tests.{eq-eqb, ne-eqb, le-leb, lt-leb, not-true}
 use Rattle.base.specs.Pick.{pick}
 use Rattle.base.proofs.Picks.{by-eqb, picks, passes}
 use Rattle.clock.specs.Timer.{lowered}
+use Rattle.records.specs.Nodes.{frame, request}
 use Rattle.model.specs.Plan.{Plan, txIn, rowIn}
 use Rattle.model.specs.State.{State, queueOn}
-use Rattle.model.specs.Scheduling.{isIn}
-use Rattle.model.specs.Tick.{handled, txTurns, rxTurns, reportOf, reported, tickedState, tickAnswer, ticked, tickReport}
-use Rattle.model.specs.Calls.{tick, running, answerOf, nextOf}
-use Rattle.model.specs.Words.{Shape}
-use Rattle.model.specs.TickRules.{Falls, RxExpires, Sent, Ticks, Reports, TickRules}
+use Rattle.model.specs.Tick.{txTurns, rxTurns, reported, tickedState, tickAnswer, ticked, tickReport}
+use Rattle.model.specs.Calls.{running, answerOf, nextOf}
+use Rattle.model.specs.Words.{In, Shape}
+use Rattle.model.specs.TickRules.{Falls, Sent, Asked, TimesOut, Ticks, TickRules}
 use Rattle.model.proofs.Lawful.{Lawful}
-use Rattle.model.proofs.Upto.{upto, those-upto, in-isIn, isIn-in}
+use Rattle.model.proofs.Upto.{upto, those-upto, in-left, in-either}
+use Rattle.model.proofs.Entries.{request-no-frame, in-isIn, absent, in-map}
+use Rattle.model.proofs.Nodes.{lin-on, lin-off, by-lin}
+use Rattle.model.proofs.MeetsReport.{reports}
 use Rattle.model.proofs.MeetsTx.{sentOn, txAfter, TxDone, turns as txTurnsDone}
-use Rattle.model.proofs.MeetsRx.{rxAfter, longAfter, RxDone, turns as rxTurnsDone}
+use Rattle.model.proofs.MeetsRx.{rxAfter, longAfter, askedOn, RxDone, turns as rxTurnsDone}
 
 -- ---- a timer
 
@@ -52,11 +53,13 @@ module _ (p : Plan) (lawful : Lawful p) (s : State) (shape : Shape p s) where
   tx = txTurnsDone p lawful s shape (length (p .tx)) (omega arith)
 
   begin : RxDone p lawful s shape sent 0 sent
+  unfolding upto
   begin =
       record {
         held = record { kept = ap length (tx .kept) ∙ shape .kept; payload = λ t l. rw (tx .kept) (shape .payload t l) };
         number = tx .number;
-        queues = refl;
+        lines = tx .lines ∙ shape .queues;
+        queue = λ m l. sym (append-nil (queueOn sent m));
         txTimers = refl;
         timers = ap length (tx .rxTimers);
         counters = ap length (tx .longs);
@@ -84,7 +87,7 @@ module _ (p : Plan) (lawful : Lawful p) (s : State) (shape : Shape p s) where
       record {
         expires = record { frame = l; handled = e; last = f };
         node = g;
-        new = λ i. true≢false (sym (in-isIn t (queueOn s n) i) ∙ not-true _ h);
+        new = λ i. true≢false (sym (in-isIn (frame t) (queueOn s n) i) ∙ not-true _ h);
       })
       (λ g h. absurd (false≢true h)))
       (λ f h. absurd (false≢true h)))
@@ -94,25 +97,67 @@ module _ (p : Plan) (lawful : Lawful p) (s : State) (shape : Shape p s) where
   unfolding sentOn
   sent-test n t x =
       picks _ _ _ (eq-eqb _ 0 (x .expires .handled)) ∙ picks _ _ _ (eq-eqb _ 1 (x .expires .last)) ∙ picks _ _ _ (eq-eqb _ n (x .node))
-      ∙ go (isIn t (queueOn s n)) refl
-    where
-      go : (b : Bool) → isIn t (queueOn s n) ≡ b → not (isIn t (queueOn s n)) ≡ true
-      go true e = absurd (x .new (isIn-in t (queueOn s n) e))
-      go false e = rw e
+      ∙ absent (frame t) (queueOn s n) (x .new)
+
+  -- ---- who is asked for
+
+  -- a request waits after the Tx timers exactly where it did before: frames alone joined
+  request-sent : (n r : ℕ) → n < p .nodes → In (request r) (queueOn sent n) → In (request r) (queueOn s n)
+  request-sent n r l i =
+      ⊎-elim (λ j. j) (λ j. absurd (request-no-frame (in-map frame (request r) (upto (sentOn p lawful s shape n) (length (p .tx))) j .2)))
+      (in-either (request r) (queueOn s n) _ (rw (tx .queue n l) at i))
+
+  test-asked : (n r : ℕ) → n < p .nodes → r < length (p .rows) → askedOn p lawful s shape sent n r ≡ true → Asked p s n r
+  unfolding askedOn
+  test-asked n r k l =
+      by-eqb (λ x. x ≡ true → Asked p s n r) (s .number % rowIn p r .frame .prescaler) 0 _ _
+      (λ e.
+      by-eqb (λ x. x ≡ true → Asked p s n r) (getD (s .rxTimers) r 0) 1 _ _
+      (λ f.
+      by-eqb (λ x. x ≡ true → Asked p s n r) (rowIn p r .frame .node) n _ _
+      (λ g.
+      by-lin p n (λ x. x ≡ true → Asked p s n r) _ _
+      (λ c h.
+      record {
+        lin = c;
+        expires = record { frame = l; handled = e; last = f };
+        node = g;
+        new =
+            λ i.
+            true≢false
+            (sym (in-isIn (request r) (queueOn sent n) (rw (tx .queue n k) (in-left (request r) (queueOn s n) _ i))) ∙ not-true _ h);
+      })
+      (λ c h. absurd (false≢true h)))
+      (λ g h. absurd (false≢true h)))
+      (λ f h. absurd (false≢true h)))
+      (λ e h. absurd (false≢true h))
+
+  asked-test : (n r : ℕ) → n < p .nodes → Asked p s n r → askedOn p lawful s shape sent n r ≡ true
+  unfolding askedOn
+  asked-test n r k x =
+      picks _ _ _ (eq-eqb _ 0 (x .expires .handled)) ∙ picks _ _ _ (eq-eqb _ 1 (x .expires .last)) ∙ picks _ _ _ (eq-eqb _ n (x .node))
+      ∙ picks _ _ _ (lin-on p n (x .lin)) ∙ absent (request r) (queueOn sent n) (λ i. x .new (request-sent n r k i))
 
   -- ---- the state
 
-  long : (r : ℕ) → r < length (p .rows) → Falls (RxExpires p s r) (rowIn p r .frame .long) (getD (s .longs) r 0) (longAfter p lawful s shape sent r)
+  long : (r : ℕ) → r < length (p .rows) → Falls (TimesOut p s r) (rowIn p r .frame .long) (getD (s .longs) r 0) (longAfter p lawful s shape sent r)
   unfolding longAfter
   long r l =
       falls _ _ _
       (λ n.
-      by-eqb (λ x. x ≡ getD (s .longs) r 0) (s .number % rowIn p r .frame .prescaler) 0 _ _
-      (λ e. by-eqb (λ x. x ≡ getD (s .longs) r 0) (getD (s .rxTimers) r 0) 1 _ _ (λ f. absurd (n′ n e f)) (λ f. refl)) (λ e. refl))
-      (λ x. picks _ _ _ (eq-eqb _ 0 (x .handled)) ∙ picks _ _ _ (eq-eqb _ 1 (x .last)))
+      by-eqb Old (s .number % rowIn p r .frame .prescaler) 0 _ _
+      (λ e.
+      by-eqb Old (getD (s .rxTimers) r 0) 1 _ _
+      (λ f.
+      by-lin p (rowIn p r .frame .node) Old _ _ (λ c. refl)
+      (λ c. absurd (n (record { expires = record { frame = l; handled = e; last = f }; notLin = c }))))
+      (λ f. refl))
+      (λ e. refl))
+      (λ x.
+      picks _ _ _ (eq-eqb _ 0 (x .expires .handled)) ∙ picks _ _ _ (eq-eqb _ 1 (x .expires .last)) ∙ passes _ _ _ (lin-off p _ (x .notLin)))
     where
-      n′ : (RxExpires p s r → ⊥) → s .number % rowIn p r .frame .prescaler ≡ 0 → getD (s .rxTimers) r 0 ≡ 1 → ⊥
-      n′ n e f = n (record { frame = l; handled = e; last = f })
+      Old : ℕ → Type 0
+      Old x = x ≡ getD (s .longs) r 0
 
   ticks : Ticks p s (tickedState p s)
   unfolding tickedState txAfter rxAfter
@@ -126,7 +171,7 @@ module _ (p : Plan) (lawful : Lawful p) (s : State) (shape : Shape p s) where
               txTimers = ap length (rx .txTimers) ∙ tx .timers ∙ shape .txTimers;
               rxTimers = rx .timers ∙ shape .rxTimers;
               longs = rx .counters ∙ shape .longs;
-              queues = ap length (rx .queues) ∙ tx .lines ∙ shape .queues;
+              queues = rx .lines;
             };
         txTimers =
             λ t l. rw (rx .txTimers, tx .before t l)
@@ -134,62 +179,21 @@ module _ (p : Plan) (lawful : Lawful p) (s : State) (shape : Shape p s) where
         queues =
             λ n l.
             record {
-              new = upto (sentOn p lawful s shape n) (length (p .tx));
-              those = those-upto (sentOn p lawful s shape n) (length (p .tx)) (λ t. test-sent n t) (λ t x. x .expires .frame) (sent-test n);
-              then = ap (λ q. getD q n []) (rx .queues) ∙ tx .queue n l;
+              frames = upto (sentOn p lawful s shape n) (length (p .tx));
+              sent = those-upto (sentOn p lawful s shape n) (length (p .tx)) (λ t. test-sent n t) (λ t x. x .expires .frame) (sent-test n);
+              requests = upto (askedOn p lawful s shape sent n) (length (p .rows));
+              asked =
+                  those-upto (askedOn p lawful s shape sent n) (length (p .rows)) (λ r. test-asked n r l) (λ r x. x .expires .frame)
+                  (λ r. asked-test n r l);
+              then = rx .queue n l ∙ ap (λ z. z ++ map request (upto (askedOn p lawful s shape sent n) (length (p .rows)))) (tx .queue n l);
             };
         rxTimers = λ r l. rw (rx .before r l) (falls _ _ _ (λ n. passes _ _ _ (ne-eqb _ 0 n)) (λ e. picks _ _ _ (eq-eqb _ 0 e)));
         longs = λ r l. rw (rx .longBefore r l) (long r l);
         kept =
             λ t b l m.
             let w = rx .bits t b l m in
-            ((λ e. ⊎-elim inl (λ f. inr (f .0)) (w .0 e)), (λ v. w .1 (⊎-elim inl (λ f. inr (f, f .expires .frame)) v)));
+            ((λ e. ⊎-elim inl (λ f. inr (f .0)) (w .0 e)), (λ v. w .1 (⊎-elim inl (λ f. inr (f, f .timesOut .expires .frame)) v)));
       }
-
-  -- ---- the report
-
-  module _ (report : List ℕ) where
-    reported-length : (n : ℕ) → length (reported p s n report) ≡ length report
-    unfolding reported
-    reported-length zero = refl
-    reported-length (suc n) = length-set (reported p s n report) n _ ∙ reported-length n
-
-    reported-later : (n r : ℕ) → n ≤ r → getD (reported p s n report) r 0 ≡ getD report r 0
-    unfolding reported
-    reported-later zero r l = refl
-    reported-later (suc n) r l = getD-set-other (reported p s n report) n r _ 0 (λ e. omega arith) ∙ reported-later n r (omega arith)
-
-    reported-at : (n r : ℕ) → r < n → n ≤ length report → getD (reported p s n report) r 0 ≡ reportOf p s r
-    unfolding reported
-    reported-at zero r l m = absurd (omega arith)
-    reported-at (suc n) r l m = go (ℕ-discrete r n) (λ k. reported-at n r k (omega arith))
-      where
-        go : Dec (r ≡ n) → (r < n → getD (reported p s n report) r 0 ≡ reportOf p s r)
-            → getD (set (reported p s n report) n (reportOf p s n)) r 0 ≡ reportOf p s r
-        go (yes e) f = rw e (getD-set-same (reported p s n report) n _ 0 (omega (arith, reported-length n)))
-        go (no e) f = getD-set-other (reported p s n report) n r _ 0 e ∙ f (omega arith)
-
-    reports : length (p .rows) ≤ length report → Reports p s report (reported p s (length (p .rows)) report)
-    unfolding reportOf handled
-    reports l =
-        record {
-          size = reported-length (length (p .rows));
-          nothing =
-              λ r k n.
-              reported-at (length (p .rows)) r k l
-              ∙ by-eqb (λ x. x ≡ 0) (s .number % rowIn p r .frame .prescaler) 0 _ _
-              (λ e. by-eqb (λ x. x ≡ 0) (getD (s .rxTimers) r 0) 1 _ _ (λ f. absurd (n (record { frame = k; handled = e; last = f }))) (λ f. refl))
-              (λ e. refl);
-          short =
-              λ r x n.
-              reported-at (length (p .rows)) r (x .frame) l
-              ∙ picks _ _ _ (eq-eqb _ 0 (x .handled)) ∙ picks _ _ _ (eq-eqb _ 1 (x .last)) ∙ passes _ _ _ (ne-eqb _ 1 n);
-          long =
-              λ r x e.
-              reported-at (length (p .rows)) r (x .frame) l
-              ∙ picks _ _ _ (eq-eqb _ 0 (x .handled)) ∙ picks _ _ _ (eq-eqb _ 1 (x .last)) ∙ picks _ _ _ (eq-eqb _ 1 e);
-          further = λ r k. reported-later (length (p .rows)) r k;
-        }
 
   pub meets-tick : (report : List ℕ) → TickRules p (running p) s report
   unfolding running answerOf nextOf tickAnswer ticked tickReport pick
@@ -202,7 +206,7 @@ module _ (p : Plan) (lawful : Lawful p) (s : State) (shape : Shape p s) where
             record {
               given = reported p s (length (p .rows)) report;
               answer = rw e;
-              reports = reports report l;
+              reports = reports p s report l;
               ticks = rw e ticks;
             };
       }

@@ -1,8 +1,8 @@
 -- The model's Tx timers in a tick: what the first n turns leave.
 use mathlib.Core.Path.{_≡_, refl, sym, ap, _∙_}
-use mathlib.Core.Logic.{_≢_, ⊎-elim}
-use mathlib.Core.Bool.{Bool, true, false, not, true≢false}
-use mathlib.Core.List.{List, [], _∷_, _++_, append-nil, append-assoc}
+use mathlib.Core.Logic.{_≢_}
+use mathlib.Core.Bool.{Bool, true, false, not}
+use mathlib.Core.List.{List, append-nil}
 use Prim.Native.Nat.{ℕ, zero, suc, _%_, _≤_, _<_}
 use native.Mathlib.Omega.{arith}
 use native.Mathlib.Decide.{ℕ-discrete}
@@ -13,20 +13,24 @@ use borrow.Author.Tests.{eq-eqb, ne-eqb}
 use Rattle.base.specs.Pick.{pick}
 use Rattle.base.proofs.Picks.{cases, by-eqb, picks, passes}
 use Rattle.clock.specs.Timer.{lowered}
+use Rattle.records.specs.declared.record.Entry.{Entry}
+use Rattle.records.specs.Nodes.{frame}
 use Rattle.model.specs.Plan.{Plan, txIn}
 use Rattle.model.specs.State.{State, queueOn}
 use Rattle.model.specs.Scheduling.{isIn, joined, scheduled}
 use Rattle.model.specs.Tick.{handled, txLowered, txTurn, txTurns}
-use Rattle.model.specs.Words.{In, Shape}
+use Rattle.model.specs.Words.{Shape}
 use Rattle.model.proofs.Lawful.{Lawful}
-use Rattle.model.proofs.Upto.{upto, upto-in, in-isIn, isIn-in, in-left, in-either}
+use Rattle.model.proofs.Upto.{upto}
+use Rattle.model.proofs.Entries.{frame-one}
+use Rattle.model.proofs.Joining.{Joined, stays as line-stays, joins as line-joins, waits}
 
 module _ (p : Plan) (lawful : Lawful p) (s : State) (shape : Shape p s) where
   -- Tx frame t expires, is of node m and does not wait there
   unfoldable pub sentOn : ℕ → ℕ → Bool
   sentOn m t =
       pick (eqb (s .number % txIn p t .prescaler) 0)
-      (pick (eqb (getD (s .txTimers) t 0) 1) (pick (eqb (txIn p t .node) m) (not (isIn t (queueOn s m))) false) false)
+      (pick (eqb (getD (s .txTimers) t 0) 1) (pick (eqb (txIn p t .node) m) (not (isIn (frame t) (queueOn s m))) false) false)
       false
 
   -- what the timer of Tx frame t holds after its turn
@@ -42,25 +46,17 @@ module _ (p : Plan) (lawful : Lawful p) (s : State) (shape : Shape p s) where
     pub lines : length (x .queues) ≡ length (s .queues)
     pub before : (t : ℕ) → t < n → getD (x .txTimers) t 0 ≡ txAfter t
     pub later : (t : ℕ) → n ≤ t → getD (x .txTimers) t 0 ≡ getD (s .txTimers) t 0
-    pub queue : (m : ℕ) → m < p .nodes → queueOn x m ≡ queueOn s m ++ upto (sentOn m) n
+    pub queue : Joined frame (p .nodes) (λ m. queueOn s m) sentOn n (x .queues)
 
   -- a turn that sets the timer and leaves the queues
   module _ (n : ℕ) (l : n < length (p .tx)) (x : State) (d : TxDone n x) where
-    unsent : (m : ℕ) → sentOn m n ≡ false → upto (sentOn m) (suc n) ≡ upto (sentOn m) n
-    unfolding upto
-    unsent m e = rw (passes (sentOn m n) (n ∷ []) [] e) (append-nil (upto (sentOn m) n))
-
-    sent : (m : ℕ) → sentOn m n ≡ true → upto (sentOn m) (suc n) ≡ upto (sentOn m) n ++ (n ∷ [])
-    unfolding upto
-    sent m e = rw (picks (sentOn m n) (n ∷ []) [] e)
-
     -- x with another value of timer n, and other queues
-    abbrev moved : ℕ → List (List ℕ) → State
+    abbrev moved : ℕ → List (List Entry) → State
     moved v q =
         record { number = x .number; kept = x .kept; txTimers = set (x .txTimers) n v; rxTimers = x .rxTimers; longs = x .longs; queues = q }
 
-    turned : (v : ℕ) (q : List (List ℕ)) → v ≡ txAfter n → length q ≡ length (s .queues)
-        → ((m : ℕ) → m < p .nodes → getD q m [] ≡ queueOn s m ++ upto (sentOn m) (suc n)) → TxDone (suc n) (moved v q)
+    turned : (v : ℕ) (q : List (List Entry)) → v ≡ txAfter n → length q ≡ length (s .queues)
+        → Joined frame (p .nodes) (λ m. queueOn s m) sentOn (suc n) q → TxDone (suc n) (moved v q)
     turned v q e k f =
         record {
           number = d .number;
@@ -81,7 +77,7 @@ module _ (p : Plan) (lawful : Lawful p) (s : State) (shape : Shape p s) where
     -- no frame joins
     quiet : (v : ℕ) → v ≡ txAfter n → ((m : ℕ) → sentOn m n ≡ false) → TxDone (suc n) (moved v (x .queues))
     quiet v e f =
-        turned v (x .queues) e (d .lines) (λ m i. d .queue m i ∙ ap (λ z. queueOn s m ++ z) (sym (unsent m (f m))))
+        turned v (x .queues) e (d .lines) (line-stays frame (p .nodes) (λ m. queueOn s m) sentOn n (x .queues) (d .queue) (λ m i. f m))
 
     -- ---- the turn of frame n
 
@@ -105,26 +101,9 @@ module _ (p : Plan) (lawful : Lawful p) (s : State) (shape : Shape p s) where
         quiet _ (ap (lowered (txIn p n .reload)) (d .later n (omega arith)) ∙ sym (picks _ _ _ f))
         (λ m. picks _ _ _ f ∙ passes _ _ _ (ne-eqb own 1 k))
 
-    -- n is in the queue at its turn exactly where it was before the tick
-    waits : isIn n (queueOn x home) ≡ isIn n (queueOn s home)
-    waits = go (isIn n (queueOn s home)) refl
-      where
-        split : In n (queueOn s home ++ upto (sentOn home) n) → In n (queueOn s home)
-        split i = ⊎-elim (λ j. j) (λ j. absurd (omega (arith, upto-in (sentOn home) n n j .0))) (in-either n (queueOn s home) _ i)
-
-        go : (b : Bool) → isIn n (queueOn s home) ≡ b → isIn n (queueOn x home) ≡ isIn n (queueOn s home)
-        go true e =
-            in-isIn n _ (rw (d .queue home (lawful .node n l)) (in-left n (queueOn s home) _ (isIn-in n _ e))) ∙ sym e
-        go false e = other (isIn n (queueOn x home)) refl
-          where
-            other : (b : Bool) → isIn n (queueOn x home) ≡ b → isIn n (queueOn x home) ≡ isIn n (queueOn s home)
-            other true f =
-                absurd (true≢false (sym (in-isIn n _ (split (rw (d .queue home (lawful .node n l)) at (isIn-in n (queueOn x home) f)))) ∙ e))
-            other false f = f ∙ sym e
-
     module _ (y : s .number % txIn p n .prescaler ≡ 0) (k : own ≡ 1) where
       -- whether it joins, by node
-      sends : (m : ℕ) → sentOn m n ≡ pick (eqb home m) (not (isIn n (queueOn s m))) false
+      sends : (m : ℕ) → sentOn m n ≡ pick (eqb home m) (not (isIn (frame n) (queueOn s m))) false
       unfolding sentOn
       sends m = picks _ _ _ (eq-eqb _ 0 y) ∙ picks _ _ _ (eq-eqb own 1 k)
 
@@ -132,33 +111,23 @@ module _ (p : Plan) (lawful : Lawful p) (s : State) (shape : Shape p s) where
       unfolding txAfter lowered pick
       loaded = rw (eq-eqb (s .number % txIn p n .prescaler) 0 y, k)
 
-      stays : isIn n (queueOn s home) ≡ true → TxDone (suc n) (txLowered p x n)
+      stays : isIn (frame n) (queueOn s home) ≡ true → TxDone (suc n) (txLowered p x n)
       unfolding txLowered lowered pick
       stays e = quiet _ (rw (d .later n (omega arith), k) (sym loaded)) (λ m. sends m ∙ by-eqb (λ z. z ≡ false) home m _ _ (λ i. rw (← i, e)) (λ i. refl))
 
-      joins : isIn n (queueOn s home) ≡ false → TxDone (suc n) (joined p (txLowered p x n) n)
+      joins : isIn (frame n) (queueOn s home) ≡ false → TxDone (suc n) (joined p (txLowered p x n) n)
       unfolding joined txLowered
       joins e =
           rw (set-set (x .txTimers) n)
-          (turned (txIn p n .reload) (set (x .queues) home (queueOn x home ++ (n ∷ []))) (sym loaded)
-          (length-set (x .queues) home _ ∙ d .lines) (λ m i. at m i (ℕ-discrete m home)))
-        where
-          at : (m : ℕ) → m < p .nodes → Dec (m ≡ home)
-              → getD (set (x .queues) home (queueOn x home ++ (n ∷ []))) m [] ≡ queueOn s m ++ upto (sentOn m) (suc n)
-          at m i (yes j) =
-              rw j
-              (getD-set-same (x .queues) home _ [] (omega (arith, d .lines, shape .queues, lawful .node n l))
-              ∙ ap (λ z. z ++ (n ∷ [])) (d .queue home (lawful .node n l))
-              ∙ append-assoc (queueOn s home) _ _
-              ∙ ap (λ z. queueOn s home ++ z) (sym (sent home (sends home ∙ picks _ _ _ (eq-eqb home home refl) ∙ ap not e))))
-          at m i (no j) =
-              getD-set-other (x .queues) home m _ [] j ∙ d .queue m i
-              ∙ ap (λ z. queueOn s m ++ z) (sym (unsent m (sends m ∙ passes _ _ _ (ne-eqb home m (λ q. j (sym q))))))
+          (turned (txIn p n .reload) _ (sym loaded) (length-set (x .queues) home _ ∙ d .lines)
+          (line-joins frame (p .nodes) (λ m. queueOn s m) sentOn n (x .queues) (d .queue) home (d .lines ∙ shape .queues)
+          (λ i. sends home ∙ picks _ _ _ (eq-eqb home home refl) ∙ ap not e) (λ m j. sends m ∙ passes _ _ _ (ne-eqb home m (λ q. j (sym q))))))
 
       expires : TxDone (suc n) (scheduled p (txLowered p x n) n)
       unfolding scheduled txLowered
       expires =
-          cases (TxDone (suc n)) (isIn n (queueOn x home)) _ _ (λ e. stays (sym waits ∙ e)) (λ e. joins (sym waits ∙ e))
+          let w = waits frame (p .nodes) (λ m. queueOn s m) sentOn n (x .queues) (d .queue) (λ t u. frame-one) home (lawful .node n l) in
+          cases (TxDone (suc n)) (isIn (frame n) (queueOn x home)) _ _ (λ e. stays (sym w ∙ e)) (λ e. joins (sym w ∙ e))
 
     pub turn : TxDone (suc n) (txTurn p x n)
     unfolding txTurn handled

@@ -1,32 +1,17 @@
 -- The numbers below a bound that pass a test, in number order.
 use mathlib.Core.Path.{_≡_, refl}
 use mathlib.Core.Logic.{_⊎_, inl, inr, ⊎-elim}
-use mathlib.Core.Bool.{Bool, true, false≢true}
+use mathlib.Core.Bool.{Bool, true}
 use mathlib.Core.List.{List, [], _∷_, _++_, append-nil}
 use Prim.Native.Nat.{ℕ, zero, suc, _<_}
 use native.Mathlib.Omega.{arith}
 use native.Mathlib.Decide.{ℕ-discrete}
-use lib.Dec.{eqb}
-use borrow.Author.Tests.{eq-eqb, eqb-true}
 use Rattle.base.specs.Pick.{pick}
 use Rattle.base.proofs.Picks.{cases, picks}
-use Rattle.bits.proofs.CopyLaws.{either, or-right}
 use Rattle.facts.specs.Good.{Each}
-use Rattle.model.specs.Scheduling.{isIn}
 use Rattle.model.specs.Words.{In, Ascending, Those}
 
--- ---- standing in a list, and the model's test of it
-
-pub in-isIn : (x : ℕ) (ys : List ℕ) → In x ys → isIn x ys ≡ true
-unfolding In isIn
-in-isIn x [] i = absurd i
-in-isIn x (y ∷ ys) (inl e) = rw (eq-eqb x y e)
-in-isIn x (y ∷ ys) (inr i) = or-right (eqb x y) (isIn x ys) (in-isIn x ys i)
-
-pub isIn-in : (x : ℕ) (ys : List ℕ) → isIn x ys ≡ true → In x ys
-unfolding In isIn
-isIn-in x [] e = absurd (false≢true e)
-isIn-in x (y ∷ ys) e = ⊎-elim (λ f. inl (eqb-true x y f)) (λ f. inr (isIn-in x ys f)) (either (eqb x y) (isIn x ys) e)
+-- ---- standing in a list
 
 pub in-left : {A : Type 0} (x : A) (xs ys : List A) → In x xs → In x (xs ++ ys)
 unfolding In

@@ -70,11 +70,6 @@ dec-both (no n) d = no (λ w. n (w .0))
 dec-both (yes a) (no m) = no (λ w. m (w .1))
 dec-both (yes a) (yes b) = yes (a, b)
 
-pub dec-in : (x : ℕ) (ys : List ℕ) → Dec (In x ys)
-unfolding In
-dec-in x [] = no (λ e. e)
-dec-in x (y ∷ ys) = dec-either (ℕ-discrete x y) (dec-in x ys)
-
 -- a bounded search
 pub first-or-none :
     (P : ℕ → Type 0) → ((r : ℕ) → Dec (P r)) → (k : ℕ) → ((r : ℕ) × P r) ⊎ ((r : ℕ) → r < k → P r → ⊥)

@@ -7,6 +7,10 @@ use Rattle.answers.specs.declared.Opened.{Opened}
 use Rattle.answers.specs.declared.Opened.the-variants as ofOpening
 use Rattle.answers.specs.declared.Received.{Received}
 use Rattle.answers.specs.declared.Received.the-variants as ofReception
+use Rattle.answers.specs.declared.Responded.{Responded}
+use Rattle.answers.specs.declared.Responded.the-variants as ofResponse
+use Rattle.answers.specs.declared.Silence.{Silence}
+use Rattle.answers.specs.declared.Silence.the-variants as ofSilence
 use Rattle.answers.specs.declared.Ticked.{Ticked}
 use Rattle.answers.specs.declared.Ticked.the-variants as ofTick
 use Rattle.answers.specs.declared.Taken.{Taken}
@@ -17,6 +21,7 @@ use Rattle.model.specs.Plan.{Plan, said}
 use Rattle.model.specs.State.{State}
 use Rattle.model.specs.Opening.{begun, openAnswer}
 use Rattle.model.specs.Reception.{receivedAnswer, received as receivedState}
+use Rattle.model.specs.Response.{respondedAnswer, responded as respondedState, silentAnswer, silent as silentState}
 use Rattle.model.specs.Tick.{tickAnswer, tickReport, ticked as tickedState}
 use Rattle.model.specs.Take.{takenAnswer, takenPayload, taken as takenState}
 use Rattle.model.specs.Fullness.{fullnessOf}
@@ -25,12 +30,16 @@ use Rattle.model.specs.Fullness.{fullnessOf}
 
 pub data Call : Type 0 where
   reception : ℕ → ℕ → List ℕ → Call
+  response : ℕ → ℕ → List ℕ → ℕ → Call
+  noResponse : ℕ → ℕ → Call
   tick : List ℕ → Call
   take : ℕ → Call
   fullness : ℕ → Call
 
 pub data Answer : Type 0 where
   received : Received → Answer
+  responded : Responded → Answer
+  silent : Silence → Answer
   ticked : Ticked → List ℕ → Answer
   taken : Taken → List ℕ → Answer
   full : Fullness → Answer
@@ -42,12 +51,16 @@ pub record Running : Type 0 where
 
 unfoldable pub answerOf : Plan → State → Call → Answer
 answerOf p s (reception n id payload) = received (receivedAnswer p s n id payload)
+answerOf p s (response n id payload sum) = responded (respondedAnswer p s n id payload sum)
+answerOf p s (noResponse n id) = silent (silentAnswer p s n id)
 answerOf p s (tick report) = ticked (tickAnswer p s report) (tickReport p s report)
 answerOf p s (take n) = taken (takenAnswer p s n) (takenPayload p s n)
 answerOf p s (fullness t) = full (fullnessOf p t)
 
 unfoldable pub nextOf : Plan → State → Call → State
 nextOf p s (reception n id payload) = receivedState p s n id payload
+nextOf p s (response n id payload sum) = respondedState p s n id payload sum
+nextOf p s (noResponse n id) = silentState p s n id
 nextOf p s (tick report) = tickedState p s report
 nextOf p s (take n) = takenState p s n
 nextOf p s (fullness t) = s
@@ -73,6 +86,8 @@ pub record Gateway : Type 0 where
 -- 11: "in a call, the area .. does not begin with hex 47 57"
 unfoldable pub refusedClosed : Call → Answer
 refusedClosed (reception n id payload) = received (ofReception.Refused NotOpen)
+refusedClosed (response n id payload sum) = responded (ofResponse.Refused NotOpen)
+refusedClosed (noResponse n id) = silent (ofSilence.Refused NotOpen)
 refusedClosed (tick report) = ticked (ofTick.Refused NotOpen) report
 refusedClosed (take n) = taken (ofTake.Refused NotOpen) []
 refusedClosed (fullness t) = full (ofFullness.Refused NotOpen)

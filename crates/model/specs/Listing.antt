@@ -5,6 +5,8 @@ use Rattle.facts.specs.PlanCases.{listing}
 use Rattle.answers.specs.declared.Opened.the-variants.{Open}
 use Rattle.answers.specs.declared.Received.the-variants.{Accepted, NoRow, TooShort}
 use Rattle.answers.specs.declared.Ticked.the-variants.{Done}
+use Rattle.answers.specs.declared.Framing.the-variants.{Can}
+use Rattle.answers.specs.declared.Taken.{Taken}
 use Rattle.answers.specs.declared.Taken.the-variants.{Nothing, Frame}
 use Rattle.model.specs.Calls.{reception, tick, take, received, ticked, taken, closed, theModel, Step, opening, call, Reply, opened, answered, replies}
 
@@ -16,16 +18,20 @@ steps =
     ∷ call (take 0) ∷ call (tick (9 ∷ [])) ∷ call (reception 0 0x20 (0x2C ∷ [])) ∷ call (take 0) ∷ call (reception 0 0x21 (0x2C ∷ []))
     ∷ call (reception 0 0x20 []) ∷ []
 
+-- Tx frame 0, after which none waits
+abbrev pub aFrame : Taken
+aFrame = Frame (record { tx = record { 0 = 0 }; id = 256; size = 2; waiting = 0; framing = Can })
+
 abbrev pub told : List Reply
 told =
     opened (Open 1 1 1)
     ∷ answered (taken Nothing [])
     ∷ answered (received Accepted)
-    ∷ answered (taken (Frame (record { 0 = 0 }) 256 2 0) (0x02 ∷ 0xC0 ∷ []))
+    ∷ answered (taken aFrame (0x02 ∷ 0xC0 ∷ []))
     ∷ answered (ticked Done (0 ∷ []))
     ∷ answered (ticked Done (1 ∷ []))
     ∷ answered (ticked Done (0 ∷ []))
-    ∷ answered (taken (Frame (record { 0 = 0 }) 256 2 0) (0x02 ∷ 0xC1 ∷ []))
+    ∷ answered (taken aFrame (0x02 ∷ 0xC1 ∷ []))
     ∷ answered (ticked Done (2 ∷ []))
     ∷ answered (received Accepted)
     ∷ answered (taken Nothing [])

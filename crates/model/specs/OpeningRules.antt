@@ -13,12 +13,15 @@ use Rattle.answers.specs.declared.Refusal.the-variants.{Plan as BadPlan, ShortA
 use Rattle.answers.specs.declared.Opened.{Opened}
 use Rattle.answers.specs.declared.Opened.the-variants.{Open, Refused}
 use Rattle.answers.specs.declared.Received.the-variants as ofReception
+use Rattle.answers.specs.declared.Responded.the-variants as ofResponse
+use Rattle.answers.specs.declared.Silence.the-variants as ofSilence
 use Rattle.answers.specs.declared.Ticked.the-variants as ofTick
 use Rattle.answers.specs.declared.Taken.the-variants as ofTake
 use Rattle.answers.specs.declared.Fullness.the-variants as ofFullness
 use Rattle.model.specs.Plan.{Plan, said, txIn, rowIn}
 use Rattle.model.specs.State.{State, keptOf, queueOn}
-use Rattle.model.specs.Calls.{Call, reception, tick, take, fullness, Answer, received, ticked, taken, full, World, closed, holding, Gateway}
+use Rattle.model.specs.Calls.{Call, reception, response, noResponse, tick, take, fullness}
+use Rattle.model.specs.Calls.{Answer, received, responded, silent, ticked, taken, full, World, closed, holding, Gateway}
 use Rattle.model.specs.Words.{Shape}
 
 -- "payloads and timers initial, long counters at the long count, queues empty, tick counter 0"
@@ -64,6 +67,8 @@ pub record Closed (g : Gateway) (c : Call) (x : Answer) : Type 0 where
 
 pub record ClosedRules (g : Gateway) : Type 0 where
   pub reception : (n id : ℕ) (payload : List ℕ) → Closed g (reception n id payload) (received (ofReception.Refused NotOpen))
+  pub response : (n id : ℕ) (payload : List ℕ) (sum : ℕ) → Closed g (response n id payload sum) (responded (ofResponse.Refused NotOpen))
+  pub noResponse : (n id : ℕ) → Closed g (noResponse n id) (silent (ofSilence.Refused NotOpen))
   pub tick : (report : List ℕ) → Closed g (tick report) (ticked (ofTick.Refused NotOpen) report)
   pub take : (n : ℕ) → Closed g (take n) (taken (ofTake.Refused NotOpen) [])
   pub fullness : (t : ℕ) → Closed g (fullness t) (full (ofFullness.Refused NotOpen))

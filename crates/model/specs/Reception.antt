@@ -7,10 +7,10 @@ use lib.ListN.{length}
 use Rattle.base.specs.Pick.{pick}
 use Rattle.bits.specs.Payload.{setBit, copied, differs}
 use Rattle.plan.specs.Rows.{Source, copy, failure, Claim, Row}
-use Rattle.answers.specs.declared.Refusal.the-variants.{NoNode, LongPayload}
+use Rattle.answers.specs.declared.Refusal.the-variants.{NoNode, LongPayload, WrongCall}
 use Rattle.answers.specs.declared.Received.{Received}
 use Rattle.answers.specs.declared.Received.the-variants.{Accepted, NoRow, TooShort, Refused}
-use Rattle.model.specs.Plan.{Plan, txIn, rowIn}
+use Rattle.model.specs.Plan.{Plan, txIn, rowIn, onLin}
 use Rattle.model.specs.State.{State, keptOf, withKept, withRxTimer, withLong}
 use Rattle.model.specs.Scheduling.{scheduled}
 
@@ -63,13 +63,14 @@ unfoldable pub foundState : Plan → State → Found → List ℕ → State
 foundState p s nothing payload = s
 foundState p s (at r) payload = pick (ltb (length payload) (rowIn p r .frame .size)) s (accepted p s r payload)
 
--- 12, then 13: "a received payload is longer than 8 bytes"
+-- 12, then 16: "the old reception gives 16 on a LIN node, after 12" (document 02, Ticket 2), then 13: "a received payload is longer than 8 bytes"
 unfoldable pub receivedAnswer : Plan → State → ℕ → ℕ → List ℕ → Received
 receivedAnswer p s n id payload =
     pick (ltb n (p .nodes))
-    (pick (leb (length payload) 8) (foundAnswer p n id (find n id 0 (p .rows)) payload) (Refused LongPayload))
+    (pick (onLin p n) (Refused WrongCall)
+    (pick (leb (length payload) 8) (foundAnswer p n id (find n id 0 (p .rows)) payload) (Refused LongPayload)))
     (Refused NoNode)
 
 unfoldable pub received : Plan → State → ℕ → ℕ → List ℕ → State
 received p s n id payload =
-    pick (ltb n (p .nodes)) (pick (leb (length payload) 8) (foundState p s (find n id 0 (p .rows)) payload) s) s
+    pick (ltb n (p .nodes)) (pick (onLin p n) s (pick (leb (length payload) 8) (foundState p s (find n id 0 (p .rows)) payload) s)) s

@@ -5,13 +5,14 @@ use mathlib.Core.List.{List, [], _∷_, _++_}
 use Prim.Native.Nat.{ℕ, _+_, _≤_, _<_}
 use lib.ListN.{length, getD}
 use Rattle.bits.specs.Payload.{bitAt}
+use Rattle.records.specs.Nodes.{frame}
 use Rattle.plan.specs.Rows.{copy, failure, Claim}
-use Rattle.answers.specs.declared.Refusal.the-variants.{NoNode, LongPayload}
+use Rattle.answers.specs.declared.Refusal.the-variants.{NoNode, LongPayload, WrongCall}
 use Rattle.answers.specs.declared.Received.the-variants.{Accepted, NoRow, TooShort, Refused}
 use Rattle.model.specs.Plan.{Plan, txIn, rowIn}
 use Rattle.model.specs.State.{State, keptOf, queueOn}
 use Rattle.model.specs.Calls.{reception, received, Running}
-use Rattle.model.specs.Words.{In, Those, Names, Smaller, Shape, Answers}
+use Rattle.model.specs.Words.{In, Those, LinNode, Names, Smaller, Shape, Answers}
 
 -- "A copy puts source bit p + k at destination bit q + k for each k below s."
 pub record Copies (p : Plan) (payload : List ℕ) (c : Claim) (from size : ℕ) (s x : State) : Type 0 where
@@ -39,9 +40,9 @@ Wanted p payload c from size s = OnReception p (c .tx) ⊎ (OnChange p (c .tx) �
 -- Tx frame t is scheduled where W holds: "a frame already waiting changes nothing. Otherwise the frame joins its node's queue at the end and its Tx
 -- timer takes its reload value."
 pub record Schedules (p : Plan) (W : Type 0) (t : ℕ) (s x : State) : Type 0 where
-  pub joins : W → (In t (queueOn s (txIn p t .node)) → ⊥) → queueOn x (txIn p t .node) ≡ queueOn s (txIn p t .node) ++ (t ∷ [])
-  pub reloads : W → (In t (queueOn s (txIn p t .node)) → ⊥) → getD (x .txTimers) t 0 ≡ txIn p t .reload
-  pub waiting : In t (queueOn s (txIn p t .node)) → (x .queues ≡ s .queues) × (x .txTimers ≡ s .txTimers)
+  pub joins : W → (In (frame t) (queueOn s (txIn p t .node)) → ⊥) → queueOn x (txIn p t .node) ≡ queueOn s (txIn p t .node) ++ (frame t ∷ [])
+  pub reloads : W → (In (frame t) (queueOn s (txIn p t .node)) → ⊥) → getD (x .txTimers) t 0 ≡ txIn p t .reload
+  pub waiting : In (frame t) (queueOn s (txIn p t .node)) → (x .queues ≡ s .queues) × (x .txTimers ≡ s .txTimers)
   pub unwanted : (W → ⊥) → (x .queues ≡ s .queues) × (x .txTimers ≡ s .txTimers)
   pub others : (m : ℕ) → m ≢ txIn p t .node → queueOn x m ≡ queueOn s m
   pub timers : (u : ℕ) → u ≢ t → getD (x .txTimers) u 0 ≡ getD (s .txTimers) u 0
@@ -74,16 +75,19 @@ pub record Becomes (r v : ℕ) (old new : List ℕ) : Type 0 where
   pub others : (q : ℕ) → q ≢ r → getD new q 0 ≡ getD old q 0
   pub size : length new ≡ length old
 
--- the row starts again
-pub record Restarts (p : Plan) (r : ℕ) (s x : State) : Type 0 where
-  -- "the Rx timer takes its reload value"
-  pub rxTimers : Becomes r (rowIn p r .frame .reload) (s .rxTimers) (x .rxTimers)
-  -- "The long counter must start again at every accepted reception" (document 02, Ticket 1)
+-- "The long counter must start again at every accepted reception" (document 02, Ticket 1); of all but the Rx timers nothing else changes
+pub record Recounts (p : Plan) (r : ℕ) (s x : State) : Type 0 where
   pub longs : Becomes r (rowIn p r .frame .long) (s .longs) (x .longs)
   pub number : x .number ≡ s .number
   pub kept : x .kept ≡ s .kept
   pub txTimers : x .txTimers ≡ s .txTimers
   pub queues : x .queues ≡ s .queues
+
+-- the row starts again
+pub record Restarts (p : Plan) (r : ℕ) (s x : State) : Type 0 where
+  -- "the Rx timer takes its reload value"
+  pub rxTimers : Becomes r (rowIn p r .frame .reload) (s .rxTimers) (x .rxTimers)
+  pub recounts : Recounts p r s x
 
 pub record Accepts (p : Plan) (g : Running) (s : State) (n id : ℕ) (payload : List ℕ) (r : ℕ) : Type 0 where
   pub answer : g .answer s (reception n id payload) ≡ received Accepted
@@ -98,13 +102,15 @@ pub record Misses (p : Plan) (g : Running) (s : State) (n id : ℕ) (payload : L
   pub answers : Answers g s (reception n id payload) (received (NoRow (length rows)))
 
 pub record ReceptionRules (p : Plan) (g : Running) (s : State) (n id : ℕ) (payload : List ℕ) : Type 0 where
-  -- 12, then 13: "a received payload is longer than 8 bytes"
+  -- 12, then 16: "the old reception gives 16 on a LIN node, after 12" (document 02, Ticket 2), then 13: "a received payload is longer than 8 bytes"
   pub refused : p .nodes ≤ n → Answers g s (reception n id payload) (received (Refused NoNode))
-  pub long : n < p .nodes → 8 < length payload → Answers g s (reception n id payload) (received (Refused LongPayload))
+  pub onLin : n < p .nodes → LinNode p n → Answers g s (reception n id payload) (received (Refused WrongCall))
+  pub long : n < p .nodes → (LinNode p n → ⊥) → 8 < length payload → Answers g s (reception n id payload) (received (Refused LongPayload))
   -- "A frame with no matching row is not processed further: answer 1, nothing changes"
-  pub noRow : n < p .nodes → length payload ≤ 8 → ((r : ℕ) → Names p n id r → ⊥) → Misses p g s n id payload
+  pub noRow : n < p .nodes → (LinNode p n → ⊥) → length payload ≤ 8 → ((r : ℕ) → Names p n id r → ⊥) → Misses p g s n id payload
   -- "A payload shorter than the row's size: answer 2, nothing changes."
-  pub short : n < p .nodes → length payload ≤ 8 → (r : ℕ) → Names p n id r → length payload < rowIn p r .frame .size
+  pub short : n < p .nodes → (LinNode p n → ⊥) → length payload ≤ 8 → (r : ℕ) → Names p n id r → length payload < rowIn p r .frame .size
       → Answers g s (reception n id payload) (received TooShort)
   -- "Otherwise it is accepted, answer 0"
-  pub accepted : n < p .nodes → length payload ≤ 8 → (r : ℕ) → Names p n id r → rowIn p r .frame .size ≤ length payload → Accepts p g s n id payload r
+  pub accepted : n < p .nodes → (LinNode p n → ⊥) → length payload ≤ 8 → (r : ℕ) → Names p n id r → rowIn p r .frame .size ≤ length payload
+      → Accepts p g s n id payload r

@@ -1,4 +1,4 @@
--- All rules of document 01 on what a caller is answered, about any gateway; that the model meets them, and that nothing else does.
+-- All rules of documents 01 and 02 on what a caller is answered, about any gateway; that the model meets them, and that nothing else does.
 use mathlib.Core.Path.{_≡_}
 use mathlib.Core.List.{List}
 use Prim.Native.Nat.{ℕ}
@@ -12,6 +12,8 @@ use Rattle.model.specs.Words.{Shape}
 use Rattle.model.specs.OpeningRules.{OpeningRules, ClosedRules}
 use Rattle.model.specs.ReceptionRules.{ReceptionRules}
 use Rattle.model.specs.TickRules.{TickRules}
+use Rattle.model.specs.ResponseRules.{ResponseRules}
+use Rattle.model.specs.SilenceRules.{SilenceRules}
 use Rattle.model.specs.TakeRules.{TakeRules}
 use Rattle.model.specs.FullnessRules.{FullnessRules}
 
@@ -19,6 +21,8 @@ use Rattle.model.specs.FullnessRules.{FullnessRules}
 
 pub record Runs (p : Plan) (g : Running) : Type 0 where
   pub reception : (s : State) → Shape p s → (n id : ℕ) (payload : List ℕ) → ReceptionRules p g s n id payload
+  pub response : (s : State) → Shape p s → (n id : ℕ) (payload : List ℕ) (sum : ℕ) → ResponseRules p g s n id payload sum
+  pub noResponse : (s : State) → Shape p s → (n id : ℕ) → SilenceRules p g s n id
   pub tick : (s : State) → Shape p s → (report : List ℕ) → TickRules p g s report
   pub take : (s : State) → Shape p s → (n : ℕ) → TakeRules p g s n
   pub fullness : (s : State) → Shape p s → (t : ℕ) → FullnessRules p g s t

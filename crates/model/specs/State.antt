@@ -2,6 +2,7 @@
 use Prim.Native.Nat.{ℕ}
 use mathlib.Core.List.{List, []}
 use lib.ListN.{getD, set}
+use Rattle.records.specs.declared.record.Entry.{Entry}
 
 pub record State : Type 0 where
   -- the number of the next tick
@@ -12,13 +13,13 @@ pub record State : Type 0 where
   -- of each Rx frame: what its timer and its long counter hold
   pub rxTimers : List ℕ
   pub longs : List ℕ
-  -- of each node: the Tx frames that wait, the oldest first
-  pub queues : List (List ℕ)
+  -- of each node: the Tx frames and requests that wait, the oldest first
+  pub queues : List (List Entry)
 
 abbrev pub keptOf : State → ℕ → List ℕ
 keptOf s t = getD (s .kept) t []
 
-abbrev pub queueOn : State → ℕ → List ℕ
+abbrev pub queueOn : State → ℕ → List Entry
 queueOn s n = getD (s .queues) n []
 
 -- ---- one thing replaced
@@ -37,7 +38,7 @@ withRxTimer s r v =
 abbrev pub withLong : State → ℕ → ℕ → State
 withLong s r v = record { number = s .number; kept = s .kept; txTimers = s .txTimers; rxTimers = s .rxTimers; longs = set (s .longs) r v; queues = s .queues }
 
-abbrev pub withQueue : State → ℕ → List ℕ → State
+abbrev pub withQueue : State → ℕ → List Entry → State
 withQueue s n q = record { number = s .number; kept = s .kept; txTimers = s .txTimers; rxTimers = s .rxTimers; longs = s .longs; queues = set (s .queues) n q }
 
 abbrev pub withNumber : State → ℕ → State

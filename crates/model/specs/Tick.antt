@@ -11,9 +11,9 @@ use Rattle.plan.specs.Rows.{Source, copy, failure, Claim}
 use Rattle.answers.specs.declared.Refusal.the-variants.{ShortReport}
 use Rattle.answers.specs.declared.Ticked.{Ticked}
 use Rattle.answers.specs.declared.Ticked.the-variants.{Done, Refused}
-use Rattle.model.specs.Plan.{Plan, txIn, rowIn}
+use Rattle.model.specs.Plan.{Plan, txIn, rowIn, onLin}
 use Rattle.model.specs.State.{State, keptOf, withKept, withTxTimer, withRxTimer, withLong, withNumber}
-use Rattle.model.specs.Scheduling.{scheduled}
+use Rattle.model.specs.Scheduling.{scheduled, requested}
 
 unfoldable pub handled : State → ℕ → Bool
 handled s prescaler = eqb (s .number % prescaler) 0
@@ -46,23 +46,33 @@ failed p s (c ∷ cs) = failed p (failedBy p s c (c .from)) cs
 unfoldable pub expired : Plan → State → ℕ → State
 expired p s r = withLong (failed p s (rowIn p r .claims)) r (lowered (rowIn p r .frame .long) (getD (s .longs) r 0))
 
+-- "1 short, 2 long"
+unfoldable pub timeoutOf : State → ℕ → ℕ
+timeoutOf s r = pick (eqb (getD (s .longs) r 0) 1) 2 1
+
+-- on a LIN node: "expiry queues a request, once while it waits; bit and long counter stay" (document 02, Ticket 2)
+unfoldable pub rxExpiry : Plan → State → ℕ → State
+rxExpiry p s r = pick (onLin p (rowIn p r .frame .node)) (requested p s r) (expired p s r)
+
 unfoldable pub rxLowered : Plan → State → ℕ → State
 rxLowered p s r = withRxTimer s r (lowered (rowIn p r .frame .reload) (getD (s .rxTimers) r 0))
 
 unfoldable pub rxTurn : Plan → State → ℕ → State
 rxTurn p s r =
     pick (handled s (rowIn p r .frame .prescaler))
-    (pick (eqb (getD (s .rxTimers) r 0) 1) (expired p (rxLowered p s r) r) (rxLowered p s r))
+    (pick (eqb (getD (s .rxTimers) r 0) 1) (rxExpiry p (rxLowered p s r) r) (rxLowered p s r))
     s
 
 unfoldable pub rxTurns : Plan → ℕ → State → State
 rxTurns p zero s = s
 rxTurns p (suc n) s = rxTurn p (rxTurns p n s) n
 
--- "0 nothing, 1 short, 2 long"
+-- "0 nothing, 1 short, 2 long"; of a request: "its report byte 0" (document 02, Ticket 2)
+unfoldable pub expiryReport : Plan → State → ℕ → ℕ
+expiryReport p s r = pick (onLin p (rowIn p r .frame .node)) 0 (timeoutOf s r)
+
 unfoldable pub reportOf : Plan → State → ℕ → ℕ
-reportOf p s r =
-    pick (handled s (rowIn p r .frame .prescaler)) (pick (eqb (getD (s .rxTimers) r 0) 1) (pick (eqb (getD (s .longs) r 0) 1) 2 1) 0) 0
+reportOf p s r = pick (handled s (rowIn p r .frame .prescaler)) (pick (eqb (getD (s .rxTimers) r 0) 1) (expiryReport p s r) 0) 0
 
 -- "The report gets one byte per Rx frame in order .. ; its further bytes stay."
 unfoldable pub reported : Plan → State → ℕ → List ℕ → List ℕ

@@ -1,17 +1,18 @@
 -- "Tick", as statements about any gateway: equations and inequalities, and no function of the model.
 use mathlib.Core.Path.{_≡_}
 use mathlib.Core.Logic.{_≢_, _⊎_, _↔_}
-use mathlib.Core.List.{List, _++_}
+use mathlib.Core.List.{List, _++_, map}
 use Prim.Native.Nat.{ℕ, suc, _+_, _%_, _≤_, _<_}
 use lib.ListN.{length, getD}
 use Rattle.bits.specs.Payload.{bitAt}
+use Rattle.records.specs.Nodes.{frame, request}
 use Rattle.plan.specs.Rows.{failure, Claim}
 use Rattle.answers.specs.declared.Refusal.the-variants.{ShortReport}
 use Rattle.answers.specs.declared.Ticked.the-variants.{Done as TickDone, Refused}
 use Rattle.model.specs.Plan.{Plan, txIn, rowIn}
 use Rattle.model.specs.State.{State, keptOf, queueOn}
 use Rattle.model.specs.Calls.{tick, ticked, Running}
-use Rattle.model.specs.Words.{In, Those, Shape, Answers}
+use Rattle.model.specs.Words.{In, Those, LinNode, LinRow, Shape, Answers}
 
 -- "A timer holding 0 is left so. Otherwise it falls by one; at 0 it has expired and takes its reload value." H says when it is handled.
 pub record Falls (H : Type 0) (reload old new : ℕ) : Type 0 where
@@ -41,23 +42,43 @@ pub record RxExpires (p : Plan) (s : State) (r : ℕ) : Type 0 where
 pub record Sent (p : Plan) (s : State) (n t : ℕ) : Type 0 where
   pub expires : TxExpires p s t
   pub node : txIn p t .node ≡ n
-  pub new : In t (queueOn s n) → ⊥
+  pub new : In (frame t) (queueOn s n) → ⊥
 
--- "joins its node's queue at the end", in number order
+-- "An Rx timer on such a node asks for the frame: expiry queues a request, once while it waits" (document 02, Ticket 2): the Rx frames of LIN node n
+-- that expire and whose request does not wait yet
+pub record Asked (p : Plan) (s : State) (n r : ℕ) : Type 0 where
+  pub lin : LinNode p n
+  pub expires : RxExpires p s r
+  pub node : rowIn p r .frame .node ≡ n
+  pub new : In (request r) (queueOn s n) → ⊥
+
+-- "joins its node's queue at the end", in number order; the requests after the frames, since "Tx timers go first"
 pub record Joins (p : Plan) (s x : State) (n : ℕ) : Type 0 where
-  pub new : List ℕ
-  pub those : Those (Sent p s n) new
-  pub then : queueOn x n ≡ queueOn s n ++ new
+  pub frames : List ℕ
+  pub sent : Those (Sent p s n) frames
+  pub requests : List ℕ
+  pub asked : Those (Asked p s n) requests
+  pub then : queueOn x n ≡ queueOn s n ++ map frame frames ++ map request requests
+
+-- the expiry of an Rx frame of a node that is not LIN is a timeout: on a LIN node "bit and long counter stay", and the "report byte" of a request is 0
+-- (document 02, Ticket 2)
+pub record TimesOut (p : Plan) (s : State) (r : ℕ) : Type 0 where
+  pub expires : RxExpires p s r
+  pub notLin : LinRow p r → ⊥
+
+-- the enabled failure bit of Rx frame r is bit b of Tx frame t
+pub record Indicates (p : Plan) (r t b : ℕ) : Type 0 where
+  pub claim : Claim
+  pub there : In claim (rowIn p r .claims)
+  pub indicator : claim .from ≡ failure
+  pub tx : claim .tx ≡ t
+  pub at : claim .at ≡ b
 
 -- "expiry sets the enabled failure bit": of Rx frame r, at bit b of Tx frame t
 pub record Fails (p : Plan) (s : State) (t b : ℕ) : Type 0 where
   pub row : ℕ
-  pub expires : RxExpires p s row
-  pub claim : Claim
-  pub there : In claim (rowIn p row .claims)
-  pub indicator : claim .from ≡ failure
-  pub tx : claim .tx ≡ t
-  pub at : claim .at ≡ b
+  pub timesOut : TimesOut p s row
+  pub indicates : Indicates p row t b
 
 -- x is the state after the tick
 pub record Ticks (p : Plan) (s x : State) : Type 0 where
@@ -68,7 +89,7 @@ pub record Ticks (p : Plan) (s x : State) : Type 0 where
   pub rxTimers : (r : ℕ) → r < length (p .rows)
       → Falls (RxHandled p s r) (rowIn p r .frame .reload) (getD (s .rxTimers) r 0) (getD (x .rxTimers) r 0)
   -- "lowers the long counter if it is above 0; falling to 0 is a long timeout and the counter takes the long count again"
-  pub longs : (r : ℕ) → r < length (p .rows) → Falls (RxExpires p s r) (rowIn p r .frame .long) (getD (s .longs) r 0) (getD (x .longs) r 0)
+  pub longs : (r : ℕ) → r < length (p .rows) → Falls (TimesOut p s r) (rowIn p r .frame .long) (getD (s .longs) r 0) (getD (x .longs) r 0)
   -- a bit is 1 after a tick exactly where it was or where an expiry sets it
   pub kept : (t b : ℕ) → t < length (p .tx) → b < 64
       → (bitAt (p .order) (keptOf x t) b ≡ 1) ↔ ((bitAt (p .order) (keptOf s t) b ≡ 1) ⊎ Fails p s t b)
@@ -76,9 +97,9 @@ pub record Ticks (p : Plan) (s x : State) : Type 0 where
 -- "0 nothing, 1 short, 2 long; its further bytes stay"
 pub record Reports (p : Plan) (s : State) (lent given : List ℕ) : Type 0 where
   pub size : length given ≡ length lent
-  pub nothing : (r : ℕ) → r < length (p .rows) → (RxExpires p s r → ⊥) → getD given r 0 ≡ 0
-  pub short : (r : ℕ) → RxExpires p s r → getD (s .longs) r 0 ≢ 1 → getD given r 0 ≡ 1
-  pub long : (r : ℕ) → RxExpires p s r → getD (s .longs) r 0 ≡ 1 → getD given r 0 ≡ 2
+  pub nothing : (r : ℕ) → r < length (p .rows) → (TimesOut p s r → ⊥) → getD given r 0 ≡ 0
+  pub short : (r : ℕ) → TimesOut p s r → getD (s .longs) r 0 ≢ 1 → getD given r 0 ≡ 1
+  pub long : (r : ℕ) → TimesOut p s r → getD (s .longs) r 0 ≡ 1 → getD given r 0 ≡ 2
   pub further : (r : ℕ) → length (p .rows) ≤ r → getD given r 0 ≡ getD lent r 0
 
 pub record Done (p : Plan) (g : Running) (s : State) (report : List ℕ) : Type 0 where

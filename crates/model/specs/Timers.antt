@@ -6,12 +6,13 @@ use Prim.Native.Nat.{ℕ, suc, _+_, _%_, _≤_, _<_}
 use lib.Dec.{eqb, leb}
 use lib.ListN.{length, getD}
 use Rattle.base.specs.Pick.{pick}
+use Rattle.records.specs.Nodes.{frame, request}
 use Rattle.answers.specs.declared.Received.the-variants.{Accepted}
 use Rattle.answers.specs.declared.Ticked.the-variants.{Done}
 use Rattle.model.specs.Plan.{Plan, txIn, rowIn}
 use Rattle.model.specs.State.{State, queueOn}
-use Rattle.model.specs.Calls.{Call, reception, tick, take, fullness, received, ticked, Running}
-use Rattle.model.specs.Words.{In, Names, Shape}
+use Rattle.model.specs.Calls.{Call, reception, response, noResponse, tick, take, fullness, received, ticked, Running}
+use Rattle.model.specs.Words.{In, LinRow, Names, Shape}
 use Rattle.model.specs.Rules.{Runs}
 
 -- the state after some calls
@@ -28,6 +29,8 @@ Throughout P g s (c ∷ cs) = P s c × Throughout P g (g .next s c) cs
 unfoldable pub handlingOf : Plan → ℕ → State → Call → ℕ
 handlingOf p prescaler s (tick report) = pick (leb (length (p .rows)) (length report)) (pick (eqb (s .number % prescaler) 0) 1 0) 0
 handlingOf p prescaler s (reception n id payload) = 0
+handlingOf p prescaler s (response n id payload sum) = 0
+handlingOf p prescaler s (noResponse n id) = 0
 handlingOf p prescaler s (take n) = 0
 handlingOf p prescaler s (fullness t) = 0
 
@@ -37,9 +40,11 @@ handlings p prescaler g s (c ∷ cs) = handlingOf p prescaler s c + handlings p 
 
 -- ---- Rx timers
 
--- a call is no reception that is accepted for Rx frame r, so it does not load the timer
+-- a call is no reception that is accepted for Rx frame r, so it does not load the timer; "Reception does not reload a LIN timer." (document 02, Ticket 2)
 unfoldable pub Leaves : Plan → Running → ℕ → State → Call → Type 0
 Leaves p g r s (reception n id payload) = g .answer s (reception n id payload) ≡ received Accepted → Names p n id r → ⊥
+Leaves p g r s (response n id payload sum) = Unit {0}
+Leaves p g r s (noResponse n id) = Unit {0}
 Leaves p g r s (tick report) = Unit {0}
 Leaves p g r s (take n) = Unit {0}
 Leaves p g r s (fullness t) = Unit {0}
@@ -48,6 +53,8 @@ Leaves p g r s (fullness t) = Unit {0}
 unfoldable pub Silent : Running → ℕ → State → Call → Type 0
 Silent g r s (tick report) = (given : List ℕ) → g .answer s (tick report) ≡ ticked Done given → getD given r 0 ≡ 0
 Silent g r s (reception n id payload) = Unit {0}
+Silent g r s (response n id payload sum) = Unit {0}
+Silent g r s (noResponse n id) = Unit {0}
 Silent g r s (take n) = Unit {0}
 Silent g r s (fullness t) = Unit {0}
 
@@ -61,15 +68,45 @@ pub record RxWaits (p : Plan) (g : Running) (s : State) (r : ℕ) (calls : List 
 
 abbrev pub RxExpiry : Type 0
 RxExpiry =
-    (p : Plan) (g : Running) → Runs p g → (s : State) → Shape p s → (r : ℕ) → r < length (p .rows) → (calls : List Call)
+    (p : Plan) (g : Running) → Runs p g → (s : State) → Shape p s → (r : ℕ) → r < length (p .rows) → (LinRow p r → ⊥) → (calls : List Call)
     → Throughout (Leaves p g r) g s calls → handlings p (rowIn p r .frame .prescaler) g s calls < getD (s .rxTimers) r 0 → RxWaits p g s r calls
+
+-- ---- Rx timers on LIN
+
+-- a call does not bring the request for Rx frame r into its node's queue
+abbrev pub Unasked : Plan → Running → ℕ → State → Call → Type 0
+Unasked p g r s c = In (request r) (queueOn (g .next s c) (rowIn p r .frame .node)) → In (request r) (queueOn s (rowIn p r .frame .node))
+
+-- "An Rx timer on such a node asks for the frame" (document 02, Ticket 2): calls that bring fewer than v handlings leave what is left of v, and none of
+-- them asks for the frame; after the v-th handling the request waits.
+pub record AskWaits (p : Plan) (g : Running) (s : State) (r : ℕ) (calls : List Call) : Type 0 where
+  pub left : getD (stateLeft g s calls .rxTimers) r 0 + handlings p (rowIn p r .frame .prescaler) g s calls ≡ getD (s .rxTimers) r 0
+  pub unasked : Throughout (Unasked p g r) g s calls
+  pub expires : suc (handlings p (rowIn p r .frame .prescaler) g s calls) ≡ getD (s .rxTimers) r 0
+      → (report : List ℕ) → length (p .rows) ≤ length report → stateLeft g s calls .number % rowIn p r .frame .prescaler ≡ 0
+      → In (request r) (queueOn (g .next (stateLeft g s calls) (tick report)) (rowIn p r .frame .node))
+
+-- whatever is called: no call loads the timer of such a row
+abbrev pub AskExpiry : Type 0
+AskExpiry =
+    (p : Plan) (g : Running) → Runs p g → (s : State) → Shape p s → (r : ℕ) → r < length (p .rows) → LinRow p r → rowIn p r .frame .node < p .nodes
+    → (calls : List Call) → handlings p (rowIn p r .frame .prescaler) g s calls < getD (s .rxTimers) r 0 → AskWaits p g s r calls
+
+-- "a request is none, its report byte 0": no tick ever reports such a row
+abbrev pub AskSilence : Type 0
+AskSilence =
+    (p : Plan) (g : Running) → Runs p g → (s : State) → Shape p s → (r : ℕ) → r < length (p .rows) → LinRow p r → (calls : List Call)
+    → Throughout (Silent g r) g s calls
 
 -- ---- Tx timers
 
--- a call is no reception at which Tx frame t begins to wait, so it does not load the timer
+-- a call is no reception, and no response, at which Tx frame t begins to wait, so it does not load the timer
 unfoldable pub Spares : Plan → Running → ℕ → State → Call → Type 0
 Spares p g t s (reception n id payload) =
-    In t (queueOn (g .next s (reception n id payload)) (txIn p t .node)) → In t (queueOn s (txIn p t .node))
+    In (frame t) (queueOn (g .next s (reception n id payload)) (txIn p t .node)) → In (frame t) (queueOn s (txIn p t .node))
+Spares p g t s (response n id payload sum) =
+    In (frame t) (queueOn (g .next s (response n id payload sum)) (txIn p t .node)) → In (frame t) (queueOn s (txIn p t .node))
+Spares p g t s (noResponse n id) = Unit {0}
 Spares p g t s (tick report) = Unit {0}
 Spares p g t s (take n) = Unit {0}
 Spares p g t s (fullness x) = Unit {0}
@@ -79,7 +116,7 @@ pub record TxWaits (p : Plan) (g : Running) (s : State) (t : ℕ) (calls : List 
   pub left : getD (stateLeft g s calls .txTimers) t 0 + handlings p (txIn p t .prescaler) g s calls ≡ getD (s .txTimers) t 0
   pub expires : suc (handlings p (txIn p t .prescaler) g s calls) ≡ getD (s .txTimers) t 0
       → (report : List ℕ) → length (p .rows) ≤ length report → stateLeft g s calls .number % txIn p t .prescaler ≡ 0
-      → In t (queueOn (g .next (stateLeft g s calls) (tick report)) (txIn p t .node))
+      → In (frame t) (queueOn (g .next (stateLeft g s calls) (tick report)) (txIn p t .node))
 
 abbrev pub TxExpiry : Type 0
 TxExpiry =

@@ -1,10 +1,11 @@
--- The words of the rules: what stands in a list, which Rx frame a node and an ID name, what a state has.
+-- The words of the rules: what stands in a list, what a node is, which Rx frame a node and an ID name, what a state has.
 use mathlib.Core.Path.{_≡_}
 use mathlib.Core.Logic.{_⊎_, _↔_}
 use mathlib.Core.List.{List, [], _∷_}
 use Prim.Native.Nat.{ℕ, _<_}
-use lib.ListN.{length}
+use lib.ListN.{length, getD}
 use Rattle.base.specs.Numbers.{Bytes}
+use Rattle.records.specs.declared.record.NodeType.the-variants.{Can, Lin}
 use Rattle.facts.specs.Good.{Each}
 use Rattle.model.specs.Plan.{Plan, rowIn}
 use Rattle.model.specs.State.{State, keptOf}
@@ -25,11 +26,29 @@ pub record Those (P : ℕ → Type 0) (xs : List ℕ) : Type 0 where
   pub order : Ascending xs
   pub exactly : (x : ℕ) → In x xs ↔ P x
 
+-- "Node type 1 is a LIN node" (document 02, Ticket 2)
+abbrev pub LinNode : Plan → ℕ → Type 0
+LinNode p n = getD (p .types) n Can ≡ Lin
+
+-- Rx frame r is one of a LIN node
+abbrev pub LinRow : Plan → ℕ → Type 0
+LinRow p r = LinNode p (rowIn p r .frame .node)
+
 -- Rx frame r is the plan's frame of node n with this ID
 pub record Names (p : Plan) (n i r : ℕ) : Type 0 where
   pub exists : r < length (p .rows)
   pub node : rowIn p r .frame .node ≡ n
   pub id : rowIn p r .frame .id ≡ i
+
+-- Rx frame r is that frame, and its node is there and is a LIN node
+pub record Polls (p : Plan) (n i r : ℕ) : Type 0 where
+  pub there : n < p .nodes
+  pub lin : LinNode p n
+  pub names : Names p n i r
+
+-- "the node is not LIN or has no such Rx frame" (document 02, Ticket 2)
+abbrev pub NothingPolled : Plan → ℕ → ℕ → Type 0
+NothingPolled p n i = (LinNode p n → ⊥) ⊎ ((r : ℕ) → Names p n i r → ⊥)
 
 -- Rx frame r is one of the plan's frames of node n, and has a smaller ID
 pub record Smaller (p : Plan) (n i r : ℕ) : Type 0 where

@@ -6,7 +6,7 @@ use Prim.Native.Nat.{ℕ, zero, suc, _+_, _%_, _<_, _≤_}
 use native.Mathlib.Omega.{arith}
 use borrow.Author.Tests.{eqb-true, eqb-false}
 use lib.Dec.{eqb}
-use lib.ListN.{length, set, length-set}
+use lib.ListN.{set, length-set}
 use lib.Seq.{getD-set-same, getD-set-other}
 use Rattle.base.specs.Pick.{pick}
 use Rattle.base.specs.Numbers.{byteAt, lowAt, setLow}
@@ -15,9 +15,9 @@ use Rattle.records.specs.declared.record.TxFrame.{TxFrame}
 use Rattle.records.specs.declared.record.RxFrame.{RxFrame}
 use Rattle.records.specs.declared.record.Record.{Record}
 use Rattle.records.specs.declared.record.Record.the-variants.{Head, Node, Tx, Rx, Signal, Destination, Broken}
-use Rattle.area.specs.Layout.{areaLength, orderByte, nodeCountByte, txCountBytes, rxCountBytes, LongEnough, node, queue}
-use Rattle.opening.specs.Opened.{withTxTimer, withPayload, withFrame, withTx, withRxTimer, withRow, withNodeRow, withRx, withRecord}
-use Rattle.opening.specs.Opened.{withRecords, ringsBefore, withRings, withFullness}
+use Rattle.area.specs.Layout.{areaLength, orderByte, nodeCountByte, canCountByte, txCountBytes, rxCountBytes, LongEnough, node, queue}
+use Rattle.opening.specs.Opened.{withTxTimer, withPayload, withFrame, withTx, withRxTimer, withRow, withNodeRow, withRequest, withRx}
+use Rattle.opening.specs.Opened.{withCan, withNode, withRecord, withRecords, ringsBefore, withRings, withFullness}
 
 pub record Alike (a b : List ℕ) : Type 0 where
   pub first : LongEnough a
@@ -84,16 +84,29 @@ unfolding withNodeRow
 alike-node-row n r h s =
     rw (alike-lowAt s (node n + 2) (omega arith)) (alike-setLow _ refl (alike-pick _ (alike-setLow _ refl s) s))
 
+alike-request : (n : ℕ) {a b : List ℕ} → n < 16 → Alike a b → Alike (withRequest n a) (withRequest n b)
+unfolding withRequest
+alike-request n h s = rw (s .at canCountByte (omega arith)) (alike-pick _ s (alike-frame n h s))
+
 alike-rx : (at : ℕ) (x : RxFrame) {a b : List ℕ} → Alike a b → Alike (withRx at x a) (withRx at x b)
 unfolding withRx
 alike-rx at x s =
     rw (alike-lowAt s rxCountBytes (omega arith))
-    (alike-setLow rxCountBytes refl (alike-node-row (x .node % 16) _ (omega arith) (alike-row _ at x (alike-rx-timer _ x s))))
+    (alike-setLow rxCountBytes refl
+    (alike-request (x .node % 16) (omega arith) (alike-node-row (x .node % 16) _ (omega arith) (alike-row _ at x (alike-rx-timer _ x s)))))
+
+alike-can : (type : ℕ) {a b : List ℕ} → Alike a b → Alike (withCan type a) (withCan type b)
+unfolding withCan
+alike-can type s = rw (s .at canCountByte (omega arith)) (alike-pick _ (alike-set canCountByte refl s) s)
+
+alike-node : (type : ℕ) {a b : List ℕ} → Alike a b → Alike (withNode type a) (withNode type b)
+unfolding withNode
+alike-node type s = alike-can type (rw (s .at nodeCountByte (omega arith)) (alike-set nodeCountByte refl s))
 
 alike-record : (at : ℕ) (r : Record) {a b : List ℕ} → Alike a b → Alike (withRecord at r a) (withRecord at r b)
 unfolding withRecord
 alike-record at (Head order) s = alike-set orderByte refl s
-alike-record at (Node body) s = alike-set nodeCountByte (rw (s .at nodeCountByte (omega arith))) s
+alike-record at (Node body) s = alike-node (body .of) s
 alike-record at (Tx x) s = alike-tx at x s
 alike-record at (Rx x) s = alike-rx at x s
 alike-record at (Signal body) s = s

@@ -13,9 +13,9 @@ use Rattle.records.specs.declared.record.TxFrame.{TxFrame}
 use Rattle.records.specs.declared.record.RxFrame.{RxFrame}
 use Rattle.records.specs.declared.record.Record.{Record}
 use Rattle.records.specs.declared.record.Record.the-variants.{Head, Node, Tx, Rx, Signal, Destination, Broken}
-use Rattle.area.specs.Layout.{orderByte, nodeCountByte, txCountBytes, rxCountBytes, nodesStart, planStart, mostRoom, queue}
+use Rattle.area.specs.Layout.{orderByte, nodeCountByte, canCountByte, txCountBytes, rxCountBytes, nodesStart, planStart, mostRoom, queue}
 use Rattle.opening.specs.Opened.{cleared, zeroed, laid, withTxTimer, withPayload, withFrame, withTx, withRxTimer, withRow, withNodeRow}
-use Rattle.opening.specs.Opened.{withRx, withRecord, withRecords, ringsBefore, withRings, withFullness}
+use Rattle.opening.specs.Opened.{withRequest, withRx, withCan, withNode, withRecord, withRecords, ringsBefore, withRings, withFullness}
 
 pub record Same (P : ℕ → Type 0) (a b : List ℕ) : Type 0 where
   pub len : length b ≡ length a
@@ -51,6 +51,12 @@ module _ (P : ℕ → Type 0) where
   unfolding zeroed
   same-zeroed from zero a never = same a
   same-zeroed from (suc n) a never = same-set _ _ (never n (omega arith)) (same-zeroed from n a (λ j h. never j (omega arith)))
+
+  pub same-node : (type : ℕ) (a : List ℕ) → (P nodeCountByte → ⊥) → (P canCountByte → ⊥) → Same P a (withNode type a)
+  unfolding withNode withCan
+  same-node type a nodes can =
+      let s = same-set nodeCountByte _ nodes (same a) in
+      both (Same P a) _ _ _ (same-set canCountByte _ can s) s
 
 pub zeroed-length : (from n : ℕ) (a : List ℕ) → length (zeroed from n a) ≡ length a
 zeroed-length from n a = same-zeroed (λ j. ⊥) from n a (λ j h p. p) .len
@@ -110,12 +116,17 @@ module _ (P : ℕ → Type 0) (tables : (j : ℕ) → nodesStart ≤ j → j < p
       put-low _ _ (omega arith) (omega arith)
       (both (Same P a) _ _ _ (put-low _ _ (omega arith) (omega arith) (same P a)) (same P a))
 
+  same-request : (n : ℕ) (a : List ℕ) → n < 16 → Same P a (withRequest n a)
+  unfolding withRequest
+  same-request n a h = both (Same P a) _ _ _ (same P a) (same-frame n a h)
+
   pub same-rx : (at : ℕ) (x : RxFrame) (a : List ℕ) → (P rxCountBytes → ⊥) → (P (rxCountBytes + 1) → ⊥) → Same P a (withRx at x a)
   unfolding withRx
   same-rx at x a low high =
       same-low P _ _ low high
       (same-then P (same-rx-timer _ x a (omega arith))
-      (same-then P (same-row _ at x _ (omega arith)) (same-node-row _ _ _ (omega arith))))
+      (same-then P (same-row _ at x _ (omega arith))
+      (same-then P (same-node-row _ _ _ (omega arith)) (same-request _ _ (omega arith)))))
 
   pub same-rings : (n : ℕ) (a : List ℕ) → n ≤ 16 → Same P a (withRings n a)
   unfolding withRings
@@ -137,7 +148,8 @@ module _
     same-record : (at : ℕ) (r : Record) (a : List ℕ) → Same P a (withRecord at r a)
     unfolding withRecord
     same-record at (Head o) a = same-set P _ _ order (same P a)
-    same-record at (Node body) a = same-set P _ _ (counts nodeCountByte (omega arith) (omega arith)) (same P a)
+    same-record at (Node body) a = same-node P (body .of) a (counts nodeCountByte (omega arith) (omega arith))
+        (counts canCountByte (omega arith) (omega arith))
     same-record at (Tx x) a = same-tx P tables at x a (counts txCountBytes (omega arith) (omega arith))
         (counts (txCountBytes + 1) (omega arith) (omega arith))
     same-record at (Rx x) a = same-rx P tables at x a (counts rxCountBytes (omega arith) (omega arith))

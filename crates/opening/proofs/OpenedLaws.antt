@@ -2,7 +2,7 @@
 use mathlib.Core.Path.{_≡_, refl, _∙_}
 use mathlib.Core.Bool.{true}
 use mathlib.Core.List.{List}
-use Prim.Native.Nat.{ℕ, _+_, _%_, _<_, _≤_}
+use Prim.Native.Nat.{ℕ, _+_, _<_, _≤_}
 use native.Mathlib.Omega.{arith}
 use borrow.Author.Tests.{eq-eqb, le-leb}
 use lib.ListN.{length, take, drop, length-drop}
@@ -13,15 +13,15 @@ use Rattle.base.proofs.Ranges.{at-most-is}
 use Rattle.records.specs.Records.{records}
 use Rattle.plan.specs.declared.verdict.Verdict.the-variants.{Good}
 use Rattle.plan.specs.Check.{checkPlan, setsOf}
-use Rattle.plan.specs.Rows.{txOf, rowsOf}
+use Rattle.plan.specs.Rows.{txOf, rowsOf, cansIn}
 use Rattle.facts.proofs.GoodFacts.{good-facts}
 use Rattle.facts.proofs.Bounds.{good-bounds}
-use Rattle.area.specs.Layout.{areaLength, counterByte, orderByte, planLengthBytes, nodeCountByte, txCountBytes, rxCountBytes, nodesStart}
-use Rattle.area.specs.Layout.{planStart, planRoom, LongEnough, marked, counter, nodeCount, txCount, rxCount, planLength, planOf}
+use Rattle.area.specs.Layout.{areaLength, counterByte, orderByte, planLengthBytes, nodeCountByte, canCountByte, txCountBytes, rxCountBytes, nodesStart}
+use Rattle.area.specs.Layout.{planStart, planRoom, LongEnough, marked, counter, nodeCount, canCount, txCount, rxCount, planLength, planOf}
 use Rattle.opening.specs.Opened.{blank, withRecords, opened}
 use Rattle.opening.proofs.Kept.{Same, same-then, same-records, same-rings, same-fullness}
 use Rattle.opening.proofs.Alike.{Alike, alike-records, alike-rings, alike-fullness}
-use Rattle.opening.proofs.Counted.{counts}
+use Rattle.opening.proofs.Counted.{CountsOf, counts}
 use Rattle.opening.proofs.BlankLaws.{alike-blank, blank-same, blank-length, blank-mark, blank-long, blank-zero, blank-plan, blank-behind}
 
 -- the rings and the fullness stand in the tables
@@ -101,15 +101,34 @@ pub record Counted (a : List ℕ) (n t r : ℕ) : Type 0 where
   pub tx : txCount a ≡ t
   pub rx : rxCount a ≡ r
 
+module _ (plan a : List ℕ) (room : LongEnough a) where
+  abbrev recorded : List ℕ
+  recorded = withRecords 0 (records plan) (blank plan a)
+
+  -- the records count from zero, and what comes after them leaves the counts
+  from-zero : (j : ℕ) → nodeCountByte ≤ j → j < planStart → byteAt (blank plan a) j ≡ 0
+  from-zero j low high = blank-zero plan a room j high (λ e. omega arith) (λ e. omega arith) (λ e. omega arith) (λ e. omega arith)
+
+  counted : CountsOf (records plan) (blank plan a) recorded
+  counted = counts 0 (records plan) (blank plan a) (omega (arith, blank-length plan a))
+
+  left : Same (λ j. j < nodesStart) recorded (opened plan a)
+  left = last-same (λ j. j < nodesStart) (λ j low high p. omega arith) plan a
+
+  -- the count of CAN nodes
+  pub opened-cans : cansIn (records plan) < 256 → canCount (opened plan a) ≡ cansIn (records plan)
+  opened-cans h =
+      let none′ = from-zero canCountByte (omega arith) (omega arith) in
+      omega (arith, left .at canCountByte (omega arith), counted .can (omega arith))
+
 pub opened-counts : (plan a : List ℕ) (n t r : ℕ) → checkPlan plan ≡ Good n t r → LongEnough a → Counted (opened plan a) n t r
 unfolding txOf rowsOf
 opened-counts plan a n t r good room =
     let most = good-bounds plan n t r good in
     let few = good-facts plan n t r good .1 in
-    let zero : (j : ℕ) → nodeCountByte ≤ j → j < planStart → byteAt (blank plan a) j ≡ 0 =
-    λ j low high. blank-zero plan a room j high (λ e. omega arith) (λ e. omega arith) (λ e. omega arith) (λ e. omega arith) in
-    let c = counts 0 (records plan) (blank plan a) (omega (arith, blank-length plan a)) in
-    let s = last-same (λ j. j < nodesStart) (λ j low high p. omega arith) plan a in
+    let zero = from-zero plan a room in
+    let c = counted plan a room in
+    let s = left plan a room in
     let nodes₀ = zero nodeCountByte (omega arith) (omega arith) in
     let tx₀ = zero txCountBytes (omega arith) (omega arith) in
     let tx₁ = zero (txCountBytes + 1) (omega arith) (omega arith) in

@@ -3,7 +3,7 @@
 use mathlib.Core.Path.{_≡_}
 use Prim.Native.Nat.{ℕ, zero, suc, _+_, _/_, _%_, _≤_}
 use mathlib.Core.List.{List, [], _∷_}
-use lib.Dec.{eqb}
+use lib.Dec.{ltb, eqb}
 use lib.ListN.{length, getD, set}
 use Rattle.base.specs.Pick.{pick}
 use Rattle.base.specs.Numbers.{byteAt, lowAt, setLow}
@@ -18,8 +18,9 @@ use Rattle.records.specs.Records.{sizeOf, recordsAt, records}
 use Rattle.plan.specs.declared.verdict.Verdict.{Verdict}
 use Rattle.plan.specs.declared.verdict.Verdict.the-variants as verdict
 use Rattle.plan.specs.Check.{setsOf}
-use Rattle.area.specs.Layout.{areaLength, orderByte, planLengthBytes, nodeCountByte, txCountBytes, rxCountBytes, planStart, longEnough}
+use Rattle.area.specs.Layout.{areaLength, orderByte, planLengthBytes, nodeCountByte, canCountByte, txCountBytes, rxCountBytes, planStart, longEnough}
 use Rattle.area.specs.Layout.{node, queue, txReload, rxReload, txTimer, rxTimer, long, full, txPlace, key, rxPlace, payload, txMask, rxMask}
+use Rattle.area.specs.Layout.{canCount}
 use Rattle.area.specs.Queue.{roomOf}
 use Rattle.answers.specs.declared.Refusal.the-variants.{Plan, ShortArea}
 use Rattle.answers.specs.declared.Opened.{Opened}
@@ -77,7 +78,7 @@ withPayload t b a =
     (payload t + 6) (b .6))
     (payload t + 7) (b .7)
 
--- one frame more that can wait on node n
+-- one frame or request more that can wait on node n
 unfoldable pub withFrame : ℕ → List ℕ → List ℕ
 withFrame n a = setLow a (queue n + 2) (lowAt a (queue n + 2) + 1)
 
@@ -100,14 +101,27 @@ unfoldable pub withNodeRow : ℕ → ℕ → List ℕ → List ℕ
 withNodeRow n r a =
     setLow (pick (eqb (lowAt a (node n + 2)) 0) (setLow a (node n) r) a) (node n + 2) (lowAt a (node n + 2) + 1)
 
+-- the request of an Rx frame of node n, where that is a LIN node
+unfoldable pub withRequest : ℕ → List ℕ → List ℕ
+withRequest n a = pick (ltb n (canCount a)) a (withFrame n a)
+
 unfoldable pub withRx : ℕ → RxFrame → List ℕ → List ℕ
 withRx at x a =
-    setLow (withNodeRow (x .node % 16) (nextRx a) (withRow (nextRx a) at x (withRxTimer (nextRx a) x a))) rxCountBytes (nextRx a + 1)
+    setLow
+    (withRequest (x .node % 16) (withNodeRow (x .node % 16) (nextRx a) (withRow (nextRx a) at x (withRxTimer (nextRx a) x a))))
+    rxCountBytes (nextRx a + 1)
+
+-- one CAN node more, where a node's type says so
+unfoldable pub withCan : ℕ → List ℕ → List ℕ
+withCan type a = pick (eqb type 0) (set a canCountByte ((byteAt a canCountByte + 1) % 256)) a
+
+unfoldable pub withNode : ℕ → List ℕ → List ℕ
+withNode type a = withCan type (set a nodeCountByte ((byteAt a nodeCountByte + 1) % 256))
 
 unfoldable pub withRecord : ℕ → Record → List ℕ → List ℕ
 withRecord at r a =
     onHead
-    (onNode (onTx (onRx a (λ frame. withRx at frame a) r) (λ frame. withTx at frame a) r) (λ body. set a nodeCountByte ((byteAt a nodeCountByte + 1) % 256)) r)
+    (onNode (onTx (onRx a (λ frame. withRx at frame a) r) (λ frame. withTx at frame a) r) (λ body. withNode (body .of) a) r)
     (λ order. set a orderByte order) r
 
 -- all records from a place on
@@ -123,7 +137,7 @@ pub record Passes (plan : List ℕ) (at next : ℕ) : Type 0 where
 
 -- ---- where the rings begin, and how full the frames are
 
--- the rings of the first n nodes, one after the other: each has room for its frames and one more
+-- the rings of the first n nodes, one after the other: each has room for its frames and requests, and one more
 unfoldable pub ringsBefore : List ℕ → ℕ → ℕ
 ringsBefore a zero = 0
 ringsBefore a (suc n) = ringsBefore a n + roomOf a n

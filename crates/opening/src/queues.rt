@@ -11,7 +11,7 @@ ghost use lib.ListN.{length};
 ghost use Rattle.area.specs.Layout.{LongEnough};
 ghost use Rattle.opening.specs.Opened.{withRings, withFullness};
 
-// The rings one after the other, each with room for its node's frames and one more.
+// The rings one after the other, each with room for its node's frames and requests, and one more.
 pub fn with_rings(area: &mut [u8])
     requires { ⌜ LongEnough (now area) ⌝ }
     ensures { λ u. ⌜ now (area .exit) ≡ withRings 16 (now (area .entry)) ⌝ }

@@ -1,6 +1,8 @@
 // What each record of a plan puts into the area.
 use crate::claims::past_claims;
+use area::header::node_type;
 use area::layout;
+use area::layout::CAN_COUNT_BYTE;
 use area::layout::NODE_COUNT_BYTE;
 use area::layout::ORDER_BYTE;
 use area::layout::RX_COUNT_BYTES;
@@ -11,6 +13,7 @@ use base::wide;
 use clock::counter::mask;
 use records::reader::read_record;
 use records::record::Eight;
+use records::record::NodeType;
 use records::record::Record;
 use records::record::RxFrame;
 use records::record::RxNumber;
@@ -23,7 +26,8 @@ ghost use Rattle.base.specs.Pick.{pick};
 ghost use Rattle.base.specs.Numbers.{setLow};
 ghost use Rattle.records.specs.Records.{records};
 ghost use Rattle.area.specs.Layout.{LongEnough, node};
-ghost use Rattle.opening.specs.Opened.{withTxTimer, withPayload, withFrame, withTx, withRxTimer, withRow, withNodeRow, withRx, withRecord, withRecords};
+ghost use Rattle.opening.specs.Opened.{withTxTimer, withPayload, withFrame, withTx, withRxTimer, withRow, withNodeRow, withRequest, withRx};
+ghost use Rattle.opening.specs.Opened.{withNode, withRecord, withRecords};
 
 // The timer of Tx frame `t`: its reload and initial values, and the mask of its prescaler.
 fn with_tx_timer(area: &mut [u8], t: TxNumber, x: TxFrame)
@@ -55,7 +59,7 @@ fn with_payload(area: &mut [u8], t: TxNumber, bytes: Eight)
     area[at + 7] = bytes.7;
 }
 
-// One frame more can wait on node `n`.
+// One frame or request more can wait on node `n`.
 fn with_frame(area: &mut [u8], n: usize)
     requires { ⌜ (n < 16) × LongEnough (now area) ⌝ }
     ensures { λ r. ⌜ now (area .exit) ≡ withFrame n (now (area .entry)) ⌝ }
@@ -130,6 +134,16 @@ fn with_node_row(area: &mut [u8], n: usize, r: usize)
     put_low(area, at, rows + 1);
 }
 
+// The request of an Rx frame of node `n`, where that is a LIN node.
+fn with_request(area: &mut [u8], n: usize)
+    requires { ⌜ (n < 16) × LongEnough (now area) ⌝ }
+    ensures { λ u. ⌜ now (area .exit) ≡ withRequest n (now (area .entry)) ⌝ }
+{
+    if let NodeType::Lin = node_type(area, n) {
+        with_frame(area, n);
+    }
+}
+
 // An Rx frame, whose record stands at `at`.
 fn with_rx(area: &mut [u8], at: usize, x: RxFrame)
     requires { ⌜ LongEnough (now area) ⌝ }
@@ -141,7 +155,19 @@ fn with_rx(area: &mut [u8], at: usize, x: RxFrame)
     with_rx_timer(area, r, x);
     with_row(area, r, at, x);
     with_node_row(area, n, number);
+    with_request(area, n);
     put_low(area, RX_COUNT_BYTES, number + 1);
+}
+
+// A node of this type.
+fn with_node(area: &mut [u8], of: u8)
+    requires { ⌜ LongEnough (now area) ⌝ }
+    ensures { λ u. ⌜ now (area .exit) ≡ withNode of (now (area .entry)) ⌝ }
+{
+    area[NODE_COUNT_BYTE] = std::num::wrapping_add_u8(area[NODE_COUNT_BYTE], 1);
+    if of == 0 {
+        area[CAN_COUNT_BYTE] = std::num::wrapping_add_u8(area[CAN_COUNT_BYTE], 1);
+    }
 }
 
 // The record that stands at `at`.
@@ -153,9 +179,7 @@ fn with_record(area: &mut [u8], at: usize, r: Record)
         Record::Head { order } => {
             area[ORDER_BYTE] = order;
         }
-        Record::Node(_) => {
-            area[NODE_COUNT_BYTE] = std::num::wrapping_add_u8(area[NODE_COUNT_BYTE], 1);
-        }
+        Record::Node(body) => with_node(area, body.of),
         Record::Tx(frame) => with_tx(area, at, frame),
         Record::Rx(frame) => with_rx(area, at, frame),
         _ => {}

@@ -14,7 +14,7 @@ use Rattle.answers.specs.declared.Opened.{Opened}
 use Rattle.answers.specs.declared.Opened.the-variants as opened
 use Rattle.opening.specs.Opened.{openedArea}
 use Rattle.events.specs.declared.Event.{Event}
-use Rattle.events.specs.declared.Event.the-variants.{Reception, Tick, Take, Bad, End}
+use Rattle.events.specs.declared.Event.the-variants.{Reception, Tick, Take, Response, NoResponse, Bad, End}
 use Rattle.events.specs.declared.Front.the-variants as front
 use Rattle.events.specs.Events.{frontOf, planOf, eventAt}
 use Rattle.lines.specs.Lines.{planLine, badLine}
@@ -39,6 +39,8 @@ unfolding eventNext
 less (Reception node id size) input at b h = omega arith
 less Tick input at b h = omega arith
 less (Take node) input at b h = omega arith
+less (Response node id size sum) input at b h = omega arith
+less (NoResponse node id) input at b h = omega arith
 less Bad input at b h = omega arith
 less End input at b h = omega arith
 

@@ -8,20 +8,27 @@ use Rattle.answers.specs.declared.Opened.{Opened}
 use Rattle.answers.specs.declared.Opened.the-variants as opened
 use Rattle.opening.specs.Opened.{openedAnswer, openedArea}
 use Rattle.reception.specs.Reception.{receivedAnswer, receivedArea}
+use Rattle.polling.specs.Polling.{respondedAnswer, respondedArea, silentAnswer, silentArea}
 use Rattle.ticking.specs.Tick.{tickAnswer, tickedArea, tickedReport}
 use Rattle.taking.specs.Taken.{takenAnswer, takenArea, takenPayload}
 use Rattle.events.specs.declared.Event.{Event}
-use Rattle.events.specs.declared.Event.the-variants.{Reception, Tick, Take, Bad, End}
+use Rattle.events.specs.declared.Event.the-variants.{Reception, Tick, Take, Response, NoResponse, Bad, End}
 use Rattle.events.specs.declared.Front.{Front}
 use Rattle.events.specs.declared.Front.the-variants as front
 use Rattle.events.specs.Events.{frontOf, planOf, eventAt, payloadAt}
-use Rattle.lines.specs.Lines.{planLine, rxLine, tickLine, takeLine, badLine}
+use Rattle.lines.specs.Lines.{planLine, rxLine, responseLine, silenceLine, tickLine, takeLine, badLine}
 
 -- ---- one event on an area: the line that it writes, and the area that it leaves
 
 -- an ID is two bytes
 unfoldable pub receivedText : List ℕ → ℕ → ℕ → List ℕ → List ℕ
 receivedText a node id payload = rxLine (receivedAnswer a node (id % 65536) payload)
+
+unfoldable pub respondedText : List ℕ → ℕ → ℕ → List ℕ → ℕ → List ℕ
+respondedText a node id payload sum = responseLine (respondedAnswer a node (id % 65536) payload sum)
+
+unfoldable pub silentText : List ℕ → ℕ → ℕ → List ℕ
+silentText a node id = silenceLine (silentAnswer a node (id % 65536))
 
 -- each tick is lent a report of its own, with one byte for each Rx frame
 abbrev pub fresh : ℕ → List ℕ
@@ -37,6 +44,8 @@ unfoldable pub eventText : Event → List ℕ → ℕ → ℕ → List ℕ → L
 eventText (Reception node id size) input at rx a = receivedText a node id (payloadAt input at)
 eventText Tick input at rx a = tickedText a rx
 eventText (Take node) input at rx a = takenText a node
+eventText (Response node id size sum) input at rx a = respondedText a node id (payloadAt input at) sum
+eventText (NoResponse node id) input at rx a = silentText a node id
 eventText Bad input at rx a = badLine
 eventText End input at rx a = []
 
@@ -44,6 +53,8 @@ unfoldable pub eventArea : Event → List ℕ → ℕ → ℕ → List ℕ → L
 eventArea (Reception node id size) input at rx a = receivedArea a node (id % 65536) (payloadAt input at)
 eventArea Tick input at rx a = tickedArea (tickAnswer a (fresh rx)) a
 eventArea (Take node) input at rx a = takenArea a node
+eventArea (Response node id size sum) input at rx a = respondedArea a node (id % 65536) (payloadAt input at) sum
+eventArea (NoResponse node id) input at rx a = silentArea a node (id % 65536)
 eventArea Bad input at rx a = a
 eventArea End input at rx a = a
 
@@ -52,6 +63,8 @@ unfoldable pub eventNext : Event → List ℕ → ℕ → ℕ
 eventNext (Reception node id size) input at = at + 13
 eventNext Tick input at = at + 1
 eventNext (Take node) input at = at + 2
+eventNext (Response node id size sum) input at = at + 14
+eventNext (NoResponse node id) input at = at + 4
 eventNext Bad input at = length input
 eventNext End input at = length input
 

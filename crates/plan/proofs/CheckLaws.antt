@@ -21,7 +21,8 @@ use Rattle.plan.specs.declared.progress.Progress.{Progress}
 use Rattle.plan.specs.declared.progress.Next.{Next}
 use Rattle.plan.specs.declared.progress.Next.the-variants.{Go, Refuse}
 use Rattle.plan.specs.Progress.{after}
-use Rattle.plan.specs.Tests.{followed, isKind, isWhole, mayStand, hasRoom, inRange, rises, inData, isFree, indicatorInData, indicatorIsFree}
+use Rattle.plan.specs.Tests.{followed, isKind, isWhole, mayStand, canFirst, hasRoom, inRange, fitsNode, rises, inData, isFree}
+use Rattle.plan.specs.Tests.{indicatorInData, indicatorIsFree}
 use Rattle.plan.specs.Check.{need, placed, judged, faultReason, sizesAfter, setsAfter}
 use Rattle.plan.specs.Motion.{Tables, sizesThen, setsThen}
 use Rattle.plan.proofs.StepLaws.{stops, goes}
@@ -38,8 +39,10 @@ pub record Passed (p : Progress) (sizes sets : List ℕ) (r : Record) : Type 0 w
   pub known : isKind r ≡ true
   pub whole : isWhole r ≡ true
   pub stands : mayStand (p .stage) r ≡ true
+  pub first : canFirst (p .counts) r ≡ true
   pub room : hasRoom (p .counts) (p .row) r ≡ true
   pub range : inRange (p .counts .nodes) r ≡ true
+  pub fits : fitsNode (p .counts) r ≡ true
   pub order : rises (p .row) r ≡ true
   pub inside : inData (p .counts) (p .row) sizes r ≡ true
   pub free : isFree (p .row) sets r ≡ true
@@ -59,19 +62,23 @@ passed p sizes sets r q e =
     let i = need-go _ _ _ _ q (h .1) in
     let j = need-go _ _ _ _ q (i .1) in
     let k = need-go _ _ _ _ q (j .1) in
-    let l = need-go _ _ _ _ q (k .1) in (
+    let l = need-go _ _ _ _ q (k .1) in
+    let m = need-go _ _ _ _ q (l .1) in
+    let o = need-go _ _ _ _ q (m .1) in (
       record {
         follows = a .0;
         known = b .0;
         whole = c .0;
         stands = d .0;
-        room = f .0;
-        range = g .0;
-        order = h .0;
-        inside = i .0;
-        free = j .0;
-        indicated = k .0;
-        indicator = l .0;
+        first = f .0;
+        room = g .0;
+        range = h .0;
+        fits = i .0;
+        order = j .0;
+        inside = k .0;
+        free = l .0;
+        indicated = m .0;
+        indicator = o .0;
       },
       (cc),
     )

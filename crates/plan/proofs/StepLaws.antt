@@ -23,7 +23,8 @@ use Rattle.plan.specs.declared.progress.Progress.{Progress}
 use Rattle.plan.specs.declared.progress.Next.{Next}
 use Rattle.plan.specs.declared.progress.Next.the-variants.{Go, Refuse}
 use Rattle.plan.specs.Progress.{keyOf, after}
-use Rattle.plan.specs.Tests.{mayStand, hasRoom, txInRange, rxInRange, inRange, rises, inData, isFree, indicatorInData, indicatorIsFree}
+use Rattle.plan.specs.Tests.{mayStand, canFirst, hasRoom, txInRange, rxInRange, inRange, frameFits, fitsNode, rises, inData, isFree}
+use Rattle.plan.specs.Tests.{indicatorInData, indicatorIsFree}
 use Rattle.plan.specs.declared.claim.Claimed.{Claimed}
 use Rattle.plan.specs.declared.claim.Claimed.the-variants.{Set, Refused}
 use Rattle.bits.specs.Owners.{owned, clash}
@@ -39,6 +40,12 @@ stops t a n rest e = rw (passes t rest (Refuse a n) (not-true t e))
 pub goes : (t : Bool) (a : Reason) (n : ℕ) (rest : Next) {x : Next} → not t ≡ false → x ≡ rest → x ≡ need t a n rest
 unfolding need
 goes t a n rest e same = rw (picks t rest (Refuse a n) (not-false t e)) same
+
+-- two tests of one reason are one
+need-both : (t u : Bool) (a : Reason) (n : ℕ) (rest : Next) → need (t && u) a n rest ≡ need t a n (need u a n rest)
+unfolding need pick
+need-both true u a n rest = refl
+need-both false u a n rest = refl
 
 -- the three that come first, of its place, the counts and its ranges, and what comes after them
 pub record Tried (n : ℕ) (stands room range : Bool) (rest y : Next) : Type 0 where
@@ -62,30 +69,52 @@ module _ {n : ℕ} {stands room range : Bool} {rest y : Next} (tests : Tried n s
 module _ (p : Progress) (sizes sets : List ℕ) where
   pub head-tests :
       (order : ℕ) → Tried (p .number) (eqb (p .stage) 0) true (leb order 1) (Go (after p (Head order))) (placed p sizes sets (Head order))
-  unfolding placed need pick mayStand hasRoom inRange rises inData isFree indicatorInData indicatorIsFree
+  unfolding placed need pick mayStand canFirst hasRoom inRange fitsNode rises inData isFree indicatorInData indicatorIsFree
   head-tests order = record { same = refl }
 
   pub node-tests :
       (body : NodeBody)
-      → Tried (p .number) (ltb 0 (p .stage) && leb (p .stage) nodeStage) (ltb (p .counts .nodes) mostNodes) (eqb (body .of) 0)
+      → Tried (p .number)
+      (ltb 0 (p .stage) && leb (p .stage) nodeStage && (not (eqb (body .of) 0) || eqb (p .counts .can) (p .counts .nodes)))
+      (ltb (p .counts .nodes) mostNodes) (leb (body .of) 1)
       (Go (after p (Node body))) (placed p sizes sets (Node body))
-  unfolding placed need pick mayStand hasRoom inRange rises inData isFree indicatorInData indicatorIsFree
-  node-tests body = record { same = refl }
+  unfolding placed need pick mayStand canFirst hasRoom inRange fitsNode rises inData isFree indicatorInData indicatorIsFree
+  node-tests body =
+      record {
+        same =
+            need-both (ltb 0 (p .stage) && leb (p .stage) nodeStage) (not (eqb (body .of) 0) || eqb (p .counts .can) (p .counts .nodes)) Place (p .number)
+            (need (ltb (p .counts .nodes) mostNodes) Count (p .number)
+            (need (leb (body .of) 1) Range (p .number)
+            (Go (after p (Node body)))));
+      }
 
   pub tx-tests :
       (x : TxFrame)
-      → Tried (p .number) (ltb 0 (p .stage) && leb (p .stage) txStage) (ltb (p .counts .tx) mostTx) (txInRange (p .counts .nodes) x)
+      → Tried (p .number) (ltb 0 (p .stage) && leb (p .stage) txStage) (ltb (p .counts .tx) mostTx)
+      (txInRange (p .counts .nodes) x && frameFits (p .counts .can) (x .node) (x .id) (x .size))
       (Go (after p (Tx x))) (placed p sizes sets (Tx x))
-  unfolding placed need pick mayStand hasRoom inRange rises inData isFree indicatorInData indicatorIsFree
-  tx-tests x = record { same = refl }
+  unfolding placed need pick mayStand canFirst hasRoom inRange fitsNode rises inData isFree indicatorInData indicatorIsFree
+  tx-tests x =
+      record {
+        same =
+            ap (λ (rest : Next). need (ltb 0 (p .stage) && leb (p .stage) txStage) Place (p .number) (need (ltb (p .counts .tx) mostTx) Count (p .number) rest))
+            (need-both (txInRange (p .counts .nodes) x) (frameFits (p .counts .can) (x .node) (x .id) (x .size)) Range (p .number) (Go (after p (Tx x))));
+      }
 
   pub rx-tests :
       (x : RxFrame)
-      → Tried (p .number) (ltb 0 (p .stage)) (ltb (p .counts .rx) mostRx) (rxInRange (p .counts .nodes) x)
+      → Tried (p .number) (ltb 0 (p .stage)) (ltb (p .counts .rx) mostRx)
+      (rxInRange (p .counts .nodes) x && frameFits (p .counts .can) (x .node) (x .id) (x .size))
       (need (leb (p .row .floor) (keyOf x)) Order (p .number)
       (Go (after p (Rx x)))) (placed p sizes sets (Rx x))
-  unfolding placed need pick mayStand hasRoom inRange rises inData isFree indicatorInData indicatorIsFree
-  rx-tests x = record { same = refl }
+  unfolding placed need pick mayStand canFirst hasRoom inRange fitsNode rises inData isFree indicatorInData indicatorIsFree
+  rx-tests x =
+      record {
+        same =
+            ap (λ (rest : Next). need (ltb 0 (p .stage)) Place (p .number) (need (ltb (p .counts .rx) mostRx) Count (p .number) rest))
+            (need-both (rxInRange (p .counts .nodes) x) (frameFits (p .counts .can) (x .node) (x .id) (x .size)) Range (p .number)
+            (need (leb (p .row .floor) (keyOf x)) Order (p .number) (Go (after p (Rx x)))));
+      }
 
   pub signal-tests :
       (body : SignalBody)
@@ -93,7 +122,7 @@ module _ (p : Progress) (sizes sets : List ℕ) where
       (leb (body .position) 63 && ltb 0 (body .size) && leb (body .size) 64)
       (need (leb (body .position + body .size) (p .row .room)) Data (p .number)
       (Go (after p (Signal body)))) (placed p sizes sets (Signal body))
-  unfolding placed need pick mayStand hasRoom inRange rises inData isFree indicatorInData indicatorIsFree
+  unfolding placed need pick mayStand canFirst hasRoom inRange fitsNode rises inData isFree indicatorInData indicatorIsFree
   signal-tests body = record { same = refl }
 
 -- ---- a destination: what it claims decides
@@ -149,7 +178,7 @@ module _ (p : Progress) (sizes sets : List ℕ) (body : DestinationBody) where
       (need (isInside p sizes body) Data (p .number)
       (claimNext p (Destination body) (claimed set (body .position) (p .row .size) (p .row .awaits) (p .row .position) (room p sizes body))))
       (placed p sizes sets (Destination body))
-  unfolding placed need pick mayStand hasRoom inRange rises inData isFree indicatorInData indicatorIsFree claimed
+  unfolding placed need pick mayStand canFirst hasRoom inRange fitsNode rises inData isFree indicatorInData indicatorIsFree claimed
   destination-tests =
       record {
         same =

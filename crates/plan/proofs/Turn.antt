@@ -5,9 +5,10 @@ use mathlib.Core.List.{List, [], _∷_}
 use Prim.Native.Nat.{ℕ, zero, suc, _+_, _-_, _^_, _≤_, _<_}
 use native.Mathlib.Omega.{arith}
 use borrow.Author.Tests.{leb-true, ltb-true}
-use lib.Dec.{leb, ltb}
+use lib.Dec.{leb, ltb, eqb}
 use lib.ListN.{length, getD, replicate, length-set, length-replicate}
 use Rattle.base.proofs.Apart.{differ}
+use Rattle.base.proofs.Picks.{both}
 use Rattle.records.specs.declared.record.SignalBody.{SignalBody}
 use Rattle.records.specs.declared.record.DestinationBody.{DestinationBody}
 use Rattle.records.specs.declared.record.Follower.{Follower}
@@ -42,7 +43,10 @@ use Rattle.plan.proofs.CheckLaws.{Passed, passed, sizes-then, sets-then
 pub fair-after : (p : Progress) (sizes sets : List ℕ) (r : Record) → Fair p → Passed p sizes sets r → p .number + 1 < 2 ^ 63 → Fair (after p r)
 unfolding after counted rowAfter stageOf hasRoom inRange mayStand pick
 fair-after p sizes sets (Head order) f t h = omega arith
-fair-after p sizes sets (Node body) f t h = let l = ltb-true (p .counts .nodes) mostNodes (t .room) in omega arith
+fair-after p sizes sets (Node body) f t h =
+    let l = ltb-true (p .counts .nodes) mostNodes (t .room) in
+    let c = both (λ n. n ≤ p .counts .nodes + 1) (eqb (body .of) 0) (p .counts .can + 1) (p .counts .can) (omega (arith, f .can)) (omega (arith, f .can)) in
+    omega arith
 fair-after p sizes sets (Tx frame) f t h = let l = ltb-true (p .counts .tx) mostTx (t .room) in omega arith
 fair-after p sizes sets (Rx frame) f t h = let l = ltb-true (p .counts .rx) mostRx (t .room) in omega arith
 fair-after p sizes sets (Signal body) f t h =

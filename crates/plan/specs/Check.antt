@@ -21,7 +21,8 @@ use Rattle.plan.specs.declared.progress.Progress.{Progress}
 use Rattle.plan.specs.declared.progress.Next.{Next}
 use Rattle.plan.specs.declared.progress.Next.the-variants.{Go, Refuse}
 use Rattle.plan.specs.Progress.{rowAfter, after, start}
-use Rattle.plan.specs.Tests.{followed, isKind, isWhole, mayStand, hasRoom, inRange, rises, inData, isFree, indicatorInData, indicatorIsFree}
+use Rattle.plan.specs.Tests.{followed, isKind, isWhole, mayStand, canFirst, hasRoom, inRange, fitsNode, rises, inData, isFree}
+use Rattle.plan.specs.Tests.{indicatorInData, indicatorIsFree}
 
 -- a test that must be passed, and what comes after it
 unfoldable pub need : Bool → Reason → ℕ → Next → Next
@@ -31,14 +32,16 @@ need test reason number rest = pick test rest (Refuse reason number)
 unfoldable pub placed : Progress → List ℕ → List ℕ → Record → Next
 placed p sizes sets r =
     need (mayStand (p .stage) r) Place (p .number)
+    (need (canFirst (p .counts) r) Place (p .number)
     (need (hasRoom (p .counts) (p .row) r) Count (p .number)
     (need (inRange (p .counts .nodes) r) Range (p .number)
+    (need (fitsNode (p .counts) r) Range (p .number)
     (need (rises (p .row) r) Order (p .number)
     (need (inData (p .counts) (p .row) sizes r) Data (p .number)
     (need (isFree (p .row) sets r) Owner (p .number)
     (need (indicatorInData (p .row) sizes r) Indicator (p .number)
     (need (indicatorIsFree (p .row) sets r) Owner (p .number)
-    (Go (after p r)))))))))
+    (Go (after p r)))))))))))
 
 -- "At each record, or the end, the missing-follower half of 9 is tried first and names the Rx frame's record; then 2, 1, .."
 unfoldable pub judged : Progress → List ℕ → List ℕ → Record → Next

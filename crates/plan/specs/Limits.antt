@@ -25,3 +25,7 @@ mostOfSignal = 15
 -- "ID 0–2047"
 abbrev pub idRange : ℕ
 idRange = 2048
+
+-- "IDs there run 0 to 59" (document 02, Ticket 2), on a LIN node
+abbrev pub linIdRange : ℕ
+linIdRange = 60

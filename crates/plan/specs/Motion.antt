@@ -15,6 +15,7 @@ use Rattle.plan.specs.Check.{sizesAfter, setsAfter}
 pub record Fair (p : Progress) : Type 0 where
   pub number : p .number < 2 ^ 63
   pub nodes : p .counts .nodes ≤ mostNodes
+  pub can : p .counts .can ≤ p .counts .nodes
   pub tx : p .counts .tx ≤ mostTx
   pub rx : p .counts .rx ≤ mostRx
   pub signals : p .counts .signals ≤ mostSignals

@@ -15,10 +15,12 @@ use Rattle.plan.specs.declared.progress.Progress.{Progress}
 unfoldable pub keyOf : RxFrame → ℕ
 keyOf frame = frame .node * idRange + frame .id
 
+-- type 0 is a CAN node
 unfoldable pub counted : Counts → Record → Counts
 counted c r =
     record {
       nodes = onNode (c .nodes) (λ body. c .nodes + 1) r;
+      can = onNode (c .can) (λ body. pick (eqb (body .of) 0) (c .can + 1) (c .can)) r;
       tx = onTx (c .tx) (λ frame. c .tx + 1) r;
       rx = onRx (c .rx) (λ frame. c .rx + 1) r;
       signals = onSignal (c .signals) (λ body. c .signals + 1) r;
@@ -76,6 +78,6 @@ start =
     record {
       number = 0;
       stage = 0;
-      counts = record { nodes = 0; tx = 0; rx = 0; signals = 0; destinations = 0 };
+      counts = record { nodes = 0; can = 0; tx = 0; rx = 0; signals = 0; destinations = 0 };
       row = record { floor = 0; room = 0; signals = 0; size = 0; destinations = 0; awaits = 0; position = 0; source = 0 };
     }

@@ -6,9 +6,11 @@ use lib.Dec.{eqb}
 use Rattle.base.specs.Pick.{pick}
 use Rattle.records.specs.declared.record.TxFrame.{TxFrame}
 use Rattle.records.specs.declared.record.RxFrame.{RxFrame}
+use Rattle.records.specs.declared.record.NodeType.{NodeType}
 use Rattle.records.specs.declared.record.Record.{Record}
 use Rattle.records.specs.Views.{onHead, onNode, onTx, onRx, inRow, noRx}
 use Rattle.records.specs.Records.{records}
+use Rattle.records.specs.Nodes.{typeOf}
 
 -- where the bits of a claim come from: the received payload from a position on, as many as a size says; or the frame's failure
 pub data Source : Type 0 where
@@ -84,6 +86,16 @@ txOf plan = txFrames (records plan)
 unfoldable pub nodesIn : List Record → ℕ
 nodesIn [] = 0
 nodesIn (r ∷ rs) = onNode (nodesIn rs) (λ body. suc (nodesIn rs)) r
+
+-- how many of them are CAN nodes: "type: 0 CAN"
+unfoldable pub cansIn : List Record → ℕ
+cansIn [] = 0
+cansIn (r ∷ rs) = onNode (cansIn rs) (λ body. pick (eqb (body .of) 0) (suc (cansIn rs)) (cansIn rs)) r
+
+-- their types, in number order
+unfoldable pub typesIn : List Record → List NodeType
+typesIn [] = []
+typesIn (r ∷ rs) = onNode (typesIn rs) (λ body. typeOf (body .of) ∷ typesIn rs) r
 
 -- the order that the head states
 unfoldable pub orderIn : List Record → ℕ

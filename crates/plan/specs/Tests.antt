@@ -10,9 +10,9 @@ use Rattle.records.specs.declared.record.TxFrame.{TxFrame}
 use Rattle.records.specs.declared.record.RxFrame.{RxFrame}
 use Rattle.records.specs.declared.record.Record.{Record}
 use Rattle.records.specs.declared.record.Record.the-variants.{Head, Node, Tx, Rx, Signal, Destination, Broken}
-use Rattle.records.specs.Views.{byFault, onRx, onSignal, onDestination, onBroken}
+use Rattle.records.specs.Views.{byFault, onNode, onTx, onRx, onSignal, onDestination, onBroken}
 use Rattle.records.specs.Kinds.{nodeStage, txStage, rxStage, signalStage}
-use Rattle.plan.specs.Limits.{mostNodes, mostTx, mostRx, mostSignals, mostInFrame, mostDestinations, mostOfSignal, idRange}
+use Rattle.plan.specs.Limits.{mostNodes, mostTx, mostRx, mostSignals, mostInFrame, mostDestinations, mostOfSignal, idRange, linIdRange}
 use Rattle.plan.specs.declared.progress.Counts.{Counts}
 use Rattle.plan.specs.declared.progress.RowSoFar.{RowSoFar}
 use Rattle.plan.specs.Progress.{keyOf}
@@ -39,6 +39,10 @@ mayStand stage (Rx frame) = ltb 0 stage
 mayStand stage (Signal body) = leb rxStage stage
 mayStand stage (Destination body) = leb signalStage stage
 mayStand stage (Broken fault) = true
+
+-- 3: "for a CAN node after a LIN node" (document 02, Ticket 2). Type 0 is a CAN node, and no LIN node is before it where all nodes so far are CAN.
+unfoldable pub canFirst : Counts → Record → Bool
+canFirst c r = onNode true (λ body. not (eqb (body .of) 0) || eqb (c .can) (c .nodes)) r
 
 -- 4: "At most 16 nodes, 256 Tx frames, 256 Rx frames, 1,024 signals (64 in a frame), 2,048 destinations (15 for a signal)."
 unfoldable pub hasRoom : Counts → RowSoFar → Record → Bool
@@ -87,15 +91,25 @@ rxInRange nodes x =
     && leb (x .position) 63
     && leb (x .long) 15
 
--- "order 0–1; type 0; .. positions 0–63; signal size 1–64"
+-- "order 0–1; .. positions 0–63; signal size 1–64"; "type: 0 CAN", and "Node type 1 is a LIN node" (document 02, Ticket 2)
 unfoldable pub inRange : ℕ → Record → Bool
 inRange nodes (Head order) = leb order 1
-inRange nodes (Node body) = eqb (body .of) 0
+inRange nodes (Node body) = leb (body .of) 1
 inRange nodes (Tx frame) = txInRange nodes frame
 inRange nodes (Rx frame) = rxInRange nodes frame
 inRange nodes (Signal body) = leb (body .position) 63 && ltb 0 (body .size) && leb (body .size) 64
 inRange nodes (Destination body) = leb (body .position) 63
 inRange nodes (Broken fault) = true
+
+-- 5: "IDs there run 0 to 59, sizes 1 to 8" (document 02, Ticket 2), of a node that is no CAN node. `can` is how many nodes are: the others follow them.
+unfoldable pub frameFits : ℕ → ℕ → ℕ → ℕ → Bool
+frameFits can node id size = ltb node can || (ltb id linIdRange && ltb 0 size)
+
+-- of a Tx or Rx frame, beside the ranges that all have
+unfoldable pub fitsNode : Counts → Record → Bool
+fitsNode c r =
+    onTx (onRx true (λ frame. frameFits (c .can) (frame .node) (frame .id) (frame .size)) r)
+    (λ frame. frameFits (c .can) (frame .node) (frame .id) (frame .size)) r
 
 -- 6: "an Rx frame's (node, ID) is not above that of the one before"
 unfoldable pub rises : RowSoFar → Record → Bool

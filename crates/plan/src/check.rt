@@ -134,6 +134,7 @@ fn begin() -> Progress
 {
     let counts = Counts {
         nodes: 0,
+        can: 0,
         tx: 0,
         rx: 0,
         signals: 0,

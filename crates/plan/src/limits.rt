@@ -15,3 +15,5 @@ pub const MOST_OF_SIGNAL: usize = 15;
 
 // An ID is below it.
 pub const ID_RANGE: usize = 2048;
+// and on a LIN node below this
+pub const LIN_ID_RANGE: usize = 60;

@@ -4,6 +4,8 @@ use crate::verdict::Reason;
 // How many records of each kind were read.
 pub struct Counts {
     pub nodes: usize,
+    // how many of the nodes are CAN nodes; the LIN nodes follow them
+    pub can: usize,
     pub tx: usize,
     pub rx: usize,
     pub signals: usize,

@@ -81,7 +81,9 @@ pub fn node_step(p: Progress, body: NodeBody) -> Next
     ensures { λ r. ⌜ r ≡ placed p [] [] (Node body) ⌝ }
 {
     let c = p.counts;
-    let stands = (0 < p.stage) & (p.stage <= NODE_STAGE);
+    // a CAN node stands before all LIN nodes
+    let can_first = (body.of != 0) | (c.can == c.nodes);
+    let stands = (0 < p.stage) & (p.stage <= NODE_STAGE) & can_first;
     if !stands {
         return refuse(p, Reason::Place);
     }
@@ -89,12 +91,14 @@ pub fn node_step(p: Progress, body: NodeBody) -> Next
     if !has_room {
         return refuse(p, Reason::Count);
     }
-    let in_range = body.of == 0;
+    let in_range = body.of <= 1;
     if !in_range {
         return refuse(p, Reason::Range);
     }
+    let can = tests::can_after(c.can, body.of);
     let counts = Counts {
         nodes: c.nodes + 1,
+        can,
         tx: c.tx,
         rx: c.rx,
         signals: c.signals,
@@ -117,7 +121,8 @@ pub fn tx_step(p: Progress, x: TxFrame, sizes: &mut [u8]) -> Next
     if !has_room {
         return refuse(p, Reason::Count);
     }
-    let in_range = tests::tx_in_range(c.nodes, x);
+    let fits = tests::frame_fits(c.can, x.node, x.id, x.size);
+    let in_range = tests::tx_in_range(c.nodes, x) & fits;
     if !in_range {
         return refuse(p, Reason::Range);
     }
@@ -125,6 +130,7 @@ pub fn tx_step(p: Progress, x: TxFrame, sizes: &mut [u8]) -> Next
     sizes[t] = x.size;
     let counts = Counts {
         nodes: c.nodes,
+        can: c.can,
         tx: c.tx + 1,
         rx: c.rx,
         signals: c.signals,
@@ -147,7 +153,8 @@ pub fn rx_step(p: Progress, x: RxFrame) -> Next
     if !has_room {
         return refuse(p, Reason::Count);
     }
-    let in_range = tests::rx_in_range(c.nodes, x);
+    let fits = tests::frame_fits(c.can, x.node, x.id, x.size);
+    let in_range = tests::rx_in_range(c.nodes, x) & fits;
     if !in_range {
         return refuse(p, Reason::Range);
     }
@@ -158,6 +165,7 @@ pub fn rx_step(p: Progress, x: RxFrame) -> Next
     }
     let counts = Counts {
         nodes: c.nodes,
+        can: c.can,
         tx: c.tx,
         rx: c.rx + 1,
         signals: c.signals,
@@ -203,6 +211,7 @@ pub fn signal_step(p: Progress, body: SignalBody) -> Next
     }
     let counts = Counts {
         nodes: c.nodes,
+        can: c.can,
         tx: c.tx,
         rx: c.rx,
         signals: c.signals + 1,
@@ -258,6 +267,7 @@ pub fn destination_step(p: Progress, body: DestinationBody, sizes: &[u8], sets: 
             sets[t] = set;
             let counts = Counts {
                 nodes: c.nodes,
+                can: c.can,
                 tx: c.tx,
                 rx: c.rx,
                 signals: c.signals,

@@ -1,15 +1,18 @@
 // Tests of a frame's fields, and what an indicator awaits.
 use crate::limits::ID_RANGE;
+use crate::limits::LIN_ID_RANGE;
 use records::decode::DESTINATION_STAGE;
 use records::decode::SIGNAL_STAGE;
 use records::record::Eight;
 use records::record::RxFrame;
 use records::record::TxFrame;
 ghost use mathlib.Core.Path.{_≡_};
+ghost use Prim.Native.Nat.{_+_, _≤_};
 ghost use lib.Dec.{eqb};
 ghost use Rattle.base.specs.Pick.{pick};
 ghost use Rattle.records.specs.Kinds.{signalStage, destinationStage};
-ghost use Rattle.plan.specs.Tests.{isPrescaler, zeroPast, txInRange, rxInRange};
+ghost use Rattle.plan.specs.Limits.{mostNodes};
+ghost use Rattle.plan.specs.Tests.{isPrescaler, zeroPast, txInRange, rxInRange, frameFits};
 
 fn is_prescaler(p: u8) -> bool
     ensures { λ r. ⌜ r ≡ isPrescaler p ⌝ }
@@ -56,6 +59,25 @@ pub fn rx_in_range(nodes: usize, x: RxFrame) -> bool
         & (x.enable <= 1)
         & (x.position <= 63)
         & (x.long <= 15)
+}
+
+// On a LIN node, which follows the CAN nodes, the ID is below 60 and the size above 0.
+pub fn frame_fits(can: usize, node: u8, id: usize, size: u8) -> bool
+    ensures { λ r. ⌜ r ≡ frameFits can node id size ⌝ }
+{
+    let on = base::wide(node);
+    (on < can) | ((id < LIN_ID_RANGE) & (0 < size))
+}
+
+// How many CAN nodes there are with one more node, of this type.
+pub fn can_after(can: usize, of: u8) -> usize
+    requires { ⌜ can ≤ mostNodes ⌝ }
+    ensures { λ r. ⌜ r ≡ pick (eqb of 0) (can + 1) can ⌝ }
+{
+    if of == 0 {
+        return can + 1;
+    }
+    can
 }
 
 // The stage that must follow an Rx frame at once: a signal, where its indicator is enabled.

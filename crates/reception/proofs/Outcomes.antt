@@ -6,8 +6,9 @@ use Prim.Native.Nat.{ℕ, _≤_, _<_}
 use lib.ListN.{length}
 use borrow.Author.Tests.{lt-ltb, le-ltb, le-leb, lt-leb}
 use Rattle.base.specs.Pick.{pick}
-use Rattle.area.specs.Layout.{marked, nodeCount}
-use Rattle.answers.specs.declared.Refusal.the-variants.{NotOpen, NoNode, LongPayload}
+use Rattle.records.specs.Nodes.{isLin}
+use Rattle.area.specs.Layout.{marked, nodeCount, typeOn}
+use Rattle.answers.specs.declared.Refusal.the-variants.{NotOpen, NoNode, LongPayload, WrongCall}
 use Rattle.answers.specs.declared.Received.{Received}
 use Rattle.answers.specs.declared.Received.the-variants.{Refused}
 use Rattle.reception.specs.declared.lookup.Found.{Found}
@@ -28,18 +29,23 @@ module _ (a : List ℕ) (n id : ℕ) (payload : List ℕ) where
     no-node h = let t = le-ltb n (nodeCount a) h in (rw (opened, t), rw (opened, t))
 
     module _ (known : n < nodeCount a) where
-      pub long-payload : 8 < length payload → Comes (Refused LongPayload) a
+      pub on-lin : isLin (typeOn a n) ≡ true → Comes (Refused WrongCall) a
       unfolding receivedAnswer receivedArea pick
-      long-payload h =
-          let t = lt-ltb n (nodeCount a) known in
-          let u = lt-leb (length payload) 8 h in
-          (rw (opened, t, u), rw (opened, t, u))
+      on-lin h = let t = lt-ltb n (nodeCount a) known in (rw (opened, t, h), rw (opened, t, h))
 
-      pub goes-on :
-          (r : Found) (x : Received) (b : List ℕ) → length payload ≤ 8 → r ≡ lookedUp a n id → x ≡ foundAnswer a r payload → b ≡ foundArea a r payload
-          → Comes x b
-      unfolding receivedAnswer receivedArea pick
-      goes-on r x b h e u v =
-          let t = lt-ltb n (nodeCount a) known in
-          let w = le-leb (length payload) 8 h in
-          (rw (opened, t, w, ← e) u, rw (opened, t, w, ← e) v)
+      module _ (can : isLin (typeOn a n) ≡ false) where
+        pub long-payload : 8 < length payload → Comes (Refused LongPayload) a
+        unfolding receivedAnswer receivedArea pick
+        long-payload h =
+            let t = lt-ltb n (nodeCount a) known in
+            let u = lt-leb (length payload) 8 h in
+            (rw (opened, t, can, u), rw (opened, t, can, u))
+
+        pub goes-on :
+            (r : Found) (x : Received) (b : List ℕ) → length payload ≤ 8 → r ≡ lookedUp a n id → x ≡ foundAnswer a r payload
+            → b ≡ foundArea a r payload → Comes x b
+        unfolding receivedAnswer receivedArea pick
+        goes-on r x b h e u v =
+            let t = lt-ltb n (nodeCount a) known in
+            let w = le-leb (length payload) 8 h in
+            (rw (opened, t, can, w, ← e) u, rw (opened, t, can, w, ← e) v)

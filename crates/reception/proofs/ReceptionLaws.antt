@@ -14,14 +14,15 @@ use Rattle.base.proofs.Picks.{cases}
 use Rattle.base.specs.Numbers.{byteAt}
 use Rattle.bits.proofs.PayloadLaws.{Bytes}
 use Rattle.records.specs.declared.record.RxNumber.{RxNumber}
+use Rattle.records.specs.Nodes.{isLin}
 use Rattle.area.specs.Layout.{counterByte, planStart, rowBound}
-use Rattle.area.specs.Layout.{marked, counter, order, nodeCount, txCount, rxCount, planOf, txFrame, rxFrame, claims}
+use Rattle.area.specs.Layout.{marked, counter, order, nodeCount, typeOn, txCount, rxCount, planOf, txFrame, rxFrame, claims}
 use Rattle.area.specs.Claims.{accepted}
 use Rattle.area.proofs.Kept.{Kept, kept-refl, kept-then, kept-allDone, counter-allDone, in-plan}
 use Rattle.area.proofs.Kept.{marked-kept, order-kept, nodeCount-kept, txCount-kept, rxCount-kept, planOf-kept, txFrame-kept, rxFrame-kept, claims-kept}
 use Rattle.area.proofs.NarrowLaws.{narrow-claims}
 use Rattle.answers.specs.declared.Refusal.{Refusal}
-use Rattle.answers.specs.declared.Refusal.the-variants.{NotOpen, NoNode, LongPayload}
+use Rattle.answers.specs.declared.Refusal.the-variants.{NotOpen, NoNode, LongPayload, WrongCall}
 use Rattle.answers.specs.declared.Received.{Received}
 use Rattle.answers.specs.declared.Received.the-variants.{Accepted, NoRow, TooShort, Refused}
 use Rattle.reception.specs.declared.lookup.Found.{Found}
@@ -45,6 +46,7 @@ module _ (a : List ℕ) (n id : ℕ) (payload : List ℕ) where
   pub record For (r : RxNumber) : Type 0 where
     pub opened : marked a ≡ true
     pub known : n < nodeCount a
+    pub can : isLin (typeOn a n) ≡ false
     pub short : length payload ≤ 8
     pub found : lookedUp a n id ≡ At r
     pub whole : rxFrame a (r .0) .size ≤ length payload
@@ -58,21 +60,23 @@ module _ (a : List ℕ) (n id : ℕ) (payload : List ℕ) where
   by-answer P other taken =
       pairs P (marked a)
       (λ o. pairs P (ltb n (nodeCount a))
-      (λ k. pairs P (leb (length payload) 8)
-      (λ s. go o (ltb-true n (nodeCount a) k) (leb-true (length payload) 8 s) (lookedUp a n id) refl)
-      (λ s. refuse LongPayload))
+      (λ k. pairs P (isLin (typeOn a n)) (λ c. refuse WrongCall)
+      (λ c. pairs P (leb (length payload) 8)
+      (λ s. go o (ltb-true n (nodeCount a) k) c (leb-true (length payload) 8 s) (lookedUp a n id) refl)
+      (λ s. refuse LongPayload)))
       (λ k. refuse NoNode))
       (λ o. refuse NotOpen)
     where
       refuse : (why : Refusal) → P (Refused why) a
       refuse why = other (Refused why) (λ e. differ cc)
 
-      go : marked a ≡ true → n < nodeCount a → length payload ≤ 8 → (f : Found) → lookedUp a n id ≡ f → P (foundAnswer a f payload) (foundArea a f payload)
-      go o k s (Nothing place) e = unfold foundAnswer foundArea in other (NoRow place) (λ w. differ cc)
-      go o k s (At r) e = unfold foundAnswer foundArea in
+      go : marked a ≡ true → n < nodeCount a → isLin (typeOn a n) ≡ false → length payload ≤ 8 → (f : Found) → lookedUp a n id ≡ f
+          → P (foundAnswer a f payload) (foundArea a f payload)
+      go o k c s (Nothing place) e = unfold foundAnswer foundArea in other (NoRow place) (λ w. differ cc)
+      go o k c s (At r) e = unfold foundAnswer foundArea in
           pairs P (ltb (length payload) (rxFrame a (r .0) .size))
           (λ t. other TooShort (λ w. differ cc))
-          (λ t. taken r (record { opened = o; known = k; short = s; found = e; whole = ltb-false (length payload) (rxFrame a (r .0) .size) t }))
+          (λ t. taken r (record { opened = o; known = k; can = c; short = s; found = e; whole = ltb-false (length payload) (rxFrame a (r .0) .size) t }))
 
   -- an unaccepted reception leaves every byte
   pub stays : (receivedAnswer a n id payload ≡ Accepted → ⊥) → receivedArea a n id payload ≡ a
@@ -83,7 +87,7 @@ module _ (a : List ℕ) (n id : ℕ) (payload : List ℕ) where
   unfolding foundAnswer foundArea pick
   accepts r f =
       let t = le-ltb (length payload) (rxFrame a (r .0) .size) (f .whole) in
-      goes-on a n id payload (f .opened) (f .known) (At r) Accepted (acceptedArea a (r .0) payload) (f .short) (sym (f .found)) (rw t) (rw t)
+      goes-on a n id payload (f .opened) (f .known) (f .can) (At r) Accepted (acceptedArea a (r .0) payload) (f .short) (sym (f .found)) (rw t) (rw t)
 
   -- answer 1 is what the lookup says that finds nothing
   abbrev pub Missed : ℕ → Type 0
@@ -94,9 +98,10 @@ module _ (a : List ℕ) (n id : ℕ) (payload : List ℕ) where
   missed place =
       cases (λ x. x ≡ NoRow place → Missed place) (marked a) _ _
       (λ o. cases (λ x. x ≡ NoRow place → Missed place) (ltb n (nodeCount a)) _ _
-      (λ k. cases (λ x. x ≡ NoRow place → Missed place) (leb (length payload) 8) _ _
+      (λ k. cases (λ x. x ≡ NoRow place → Missed place) (isLin (typeOn a n)) _ _ (λ c e. no cc)
+      (λ c. cases (λ x. x ≡ NoRow place → Missed place) (leb (length payload) 8) _ _
       (λ s. go (ltb-true n (nodeCount a) k) (lookedUp a n id) refl)
-      (λ s e. no cc))
+      (λ s e. no cc)))
       (λ k e. no cc))
       (λ o e. no cc)
     where

@@ -60,18 +60,25 @@ pub counter-restarted : (a : List ℕ) (r : ℕ) → Same (λ j. j ≡ counterBy
 unfolding restarted
 counter-restarted a r = same-set _ _ (λ p. omega arith) (same-set _ _ (λ p. omega arith) (same-refl a))
 
--- once the row has started again and the failure bit is written, the walk from the end of the Rx record on does what an acceptance does
-pub walked-accepted :
-    (a : List ℕ) (r : ℕ) (payload b c : List ℕ) → r < rowBound → b ≡ restarted a r → c ≡ failureWritten (order a) 0 b (rxRecordPlace a r)
+-- on an area that keeps the plan, once the failure bit is written, the walk from the end of the Rx record on does all that the claims say
+pub walked-claims :
+    (a : List ℕ) (r : ℕ) (payload b c : List ℕ) → Kept a b → c ≡ failureWritten (order a) 0 b (rxRecordPlace a r)
     → rxAt (stored b) (rxRecordPlace a r) .position < 256
-    → walked (order a) payload 0 0 (stored c) (rxRecordPlace a r + rxBytes) c ≡ acceptedArea a r payload
-unfolding walked acceptedArea claims
-walked-accepted a r payload b c h e f narrow =
+    → walked (order a) payload 0 0 (stored c) (rxRecordPlace a r + rxBytes) c ≡ allDone (order a) (accepted r payload) (claims a r) b
+unfolding walked claims
+walked-claims a r payload b c kept f narrow =
     let at = rxRecordPlace a r in
-    let kept : Kept a b = rw e (kept-restarted a r h) in
     let same : stored c ≡ stored b = rw f (stored-kept (kept-failure (order a) 0 b at narrow)) in
-    rw (same, ← e)
+    rw same
     (copies-rx (order a) (accepted 0 payload) 0 r 0 0 (recordsAt (stored b) (at + rxBytes)) c
     ∙ sym (allDone-numbered (order a) r (accepted 0 payload) _ c)
     ∙ ap (allDone (order a) (accepted r payload) (claimsFrom r none 0 0 (recordsAt (stored b) (at + rxBytes)))) f
     ∙ sym (accepted-claims (order a) r a at b payload (stored-kept kept)))
+
+-- once the row has started again: what an acceptance does
+pub walked-accepted :
+    (a : List ℕ) (r : ℕ) (payload b c : List ℕ) → r < rowBound → b ≡ restarted a r → c ≡ failureWritten (order a) 0 b (rxRecordPlace a r)
+    → rxAt (stored b) (rxRecordPlace a r) .position < 256
+    → walked (order a) payload 0 0 (stored c) (rxRecordPlace a r + rxBytes) c ≡ acceptedArea a r payload
+unfolding acceptedArea
+walked-accepted a r payload b c h e f narrow = rw (← e) (walked-claims a r payload b c (rw e (kept-restarted a r h)) f narrow)

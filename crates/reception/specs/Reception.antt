@@ -5,9 +5,10 @@ use lib.Dec.{leb, ltb}
 use lib.ListN.{length, set}
 use Rattle.base.specs.Pick.{pick}
 use Rattle.base.specs.Numbers.{byteAt}
-use Rattle.area.specs.Layout.{rxReload, rxTimer, long, marked, order, nodeCount, rxFrame, claims}
+use Rattle.records.specs.Nodes.{isLin}
+use Rattle.area.specs.Layout.{rxReload, rxTimer, long, marked, order, nodeCount, typeOn, rxFrame, claims}
 use Rattle.area.specs.Claims.{accepted, allDone}
-use Rattle.answers.specs.declared.Refusal.the-variants.{NotOpen, NoNode, LongPayload}
+use Rattle.answers.specs.declared.Refusal.the-variants.{NotOpen, NoNode, LongPayload, WrongCall}
 use Rattle.answers.specs.declared.Received.{Received}
 use Rattle.answers.specs.declared.Received.the-variants.{Accepted, NoRow, TooShort, Refused}
 use Rattle.reception.specs.declared.lookup.Found.{Found}
@@ -34,15 +35,18 @@ unfoldable pub foundArea : List ℕ → Found → List ℕ → List ℕ
 foundArea a (Nothing place) payload = a
 foundArea a (At r) payload = pick (ltb (length payload) (rxFrame a (r .0) .size)) a (acceptedArea a (r .0) payload)
 
--- "For calls: 11, then 12 .., then 13"
+-- "For calls: 11, then 12 .., then 13"; "the old reception gives 16 on a LIN node, after 12" (document 02, Ticket 2)
 unfoldable pub receivedAnswer : List ℕ → ℕ → ℕ → List ℕ → Received
 receivedAnswer a n id payload =
     pick (marked a)
     (pick (ltb n (nodeCount a))
-    (pick (leb (length payload) 8) (foundAnswer a (lookedUp a n id) payload) (Refused LongPayload))
+    (pick (isLin (typeOn a n)) (Refused WrongCall)
+    (pick (leb (length payload) 8) (foundAnswer a (lookedUp a n id) payload) (Refused LongPayload)))
     (Refused NoNode))
     (Refused NotOpen)
 
 unfoldable pub receivedArea : List ℕ → ℕ → ℕ → List ℕ → List ℕ
 receivedArea a n id payload =
-    pick (marked a) (pick (ltb n (nodeCount a)) (pick (leb (length payload) 8) (foundArea a (lookedUp a n id) payload) a) a) a
+    pick (marked a)
+    (pick (ltb n (nodeCount a)) (pick (isLin (typeOn a n)) a (pick (leb (length payload) 8) (foundArea a (lookedUp a n id) payload) a)) a)
+    a

@@ -1,4 +1,4 @@
 // Reception: the lookup among a node's rows, and what an accepted payload does.
-mod lookup;
+pub mod lookup;
 pub mod receive;
-mod walk;
+pub mod walk;

@@ -10,12 +10,14 @@ use area::frames::rx_record_place;
 use area::frames::rx_size;
 use area::header::has_node;
 use area::header::is_marked;
+use area::header::node_type;
 use area::layout::ORDER_BYTE;
 use area::layout::long;
 use area::layout::row_in_range;
 use area::layout::rx_reload;
 use area::layout::rx_timer;
 use records::decode::RX_BYTES;
+use records::record::NodeType;
 use records::record::RxNumber;
 ghost use mathlib.Core.Path.{_≡_};
 ghost use Prim.Native.Nat.{_≤_, _<_};
@@ -36,6 +38,9 @@ pub fn receive(area: &mut [u8], node: usize, id: u32, payload: &[u8]) -> Receive
     let there = has_node(area, node);
     if !there {
         return Received::Refused(Refusal::NoNode);
+    }
+    if let NodeType::Lin = node_type(area, node) {
+        return Received::Refused(Refusal::WrongCall);
     }
     if 8 < payload.len() {
         return Received::Refused(Refusal::LongPayload);

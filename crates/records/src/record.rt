@@ -5,6 +5,18 @@ pub struct RxNumber(pub usize);
 
 pub struct TxNumber(pub usize);
 
+// What a node is: a CAN node, or one of a LIN bus whose master we are.
+pub enum NodeType {
+    Can,
+    Lin,
+}
+
+// What waits in a node's queue: a Tx frame, or the request for an Rx frame of a LIN node.
+pub enum Entry {
+    Frame(TxNumber),
+    Request(RxNumber),
+}
+
 // The eight bytes of an initial payload.
 pub struct Eight(
     pub u8,

@@ -24,7 +24,7 @@ unfolding stepped
 stepped-size a (opening plan) = opened-sized _ plan a
 stepped-size a (call c) = call-sized a c
 
-size : (a : List ℕ) (cs : List Step) → length (afterIn a cs) ≡ length a
+pub size : (a : List ℕ) (cs : List Step) → length (afterIn a cs) ≡ length a
 unfolding afterIn
 size a [] = refl
 size a (c ∷ cs) = size (stepped a c) cs ∙ stepped-size a c
@@ -56,7 +56,7 @@ unfolding repliesIn afterIn
 replies-append a [] ds = refl
 replies-append a (c ∷ cs) ds = ap (λ xs. replyIn a c ∷ xs) (replies-append (stepped a c) cs ds)
 
-after-append : (a : List ℕ) (cs ds : List Step) → afterIn a (cs ++ ds) ≡ afterIn (afterIn a cs) ds
+pub after-append : (a : List ℕ) (cs ds : List Step) → afterIn a (cs ++ ds) ≡ afterIn (afterIn a cs) ds
 unfolding afterIn
 after-append a [] ds = refl
 after-append a (c ∷ cs) ds = after-append (stepped a c) cs ds
@@ -78,7 +78,7 @@ module _ (room : ℕ) (a : List ℕ) (e : length a ≡ room) (plan : List ℕ) w
   unfolding stepped worldAfter theModel
   opens f b = rw (← e) (opening-agrees a plan b closed (λ why number g. absurd (not-refused f why number g)))
 
-  since : {n t r : ℕ} → replyIn a (opening plan) ≡ opened (Open n t r) → Bytes plan → (cs : List Step) → Each OfBytes cs
+  pub since : {n t r : ℕ} → replyIn a (opening plan) ≡ opened (Open n t r) → Bytes plan → (cs : List Step) → Each OfBytes cs
       → (repliesIn a (opening plan ∷ cs) ≡ replies (theModel room) closed (opening plan ∷ cs))
       × Agrees (afterIn a (opening plan ∷ cs)) (after (theModel room) closed (opening plan ∷ cs))
   unfolding repliesIn afterIn replies after

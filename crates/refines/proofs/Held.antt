@@ -10,6 +10,7 @@ use Rattle.records.specs.Records.{records}
 use Rattle.plan.specs.Rows.{txOf, rowsOf, nodesIn}
 use Rattle.facts.specs.Good.{GoodPlan}
 use Rattle.area.specs.Layout.{LongEnough, txTimer, rxTimer, long, payload, counter}
+use Rattle.area.specs.Queue.{entryOf}
 use Rattle.area.proofs.Frame.{Same}
 use Rattle.area.proofs.QueueLaws.{queue-same}
 use Rattle.tables.specs.Reads.{Reads}
@@ -18,6 +19,7 @@ use Rattle.sending.proofs.Holding.{holding-kept}
 use Rattle.sending.proofs.Moves.{Ready, Moves, Resting, Rests, moves-rests}
 use Rattle.model.specs.Plan.{said}
 use Rattle.model.specs.State.{State, keptOf}
+use Rattle.model.specs.Opening.{mapped}
 use Rattle.model.specs.Words.{Shape}
 use Rattle.refines.specs.Shows.{Shows}
 
@@ -61,7 +63,8 @@ module _ {plan a : List ℕ} {s : State} (h : Held plan a s) where
               rxTimers = rx;
               longs = longs;
               queues =
-                  λ n l. queue-same {P = Resting} (λ j i k. omega arith) (λ j i k. omega arith) rests n (below n l) ∙ h .shows .queues n l
+                  λ n l. ap (mapped entryOf) (queue-same {P = Resting} (λ j i k. omega arith) (λ j i k. omega arith) rests n (below n l))
+                  ∙ h .shows .queues n l
                   ∙ ap (λ z. getD z n []) (sym q);
             };
       }

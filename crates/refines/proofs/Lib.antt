@@ -3,7 +3,11 @@ pub mod Untaken
 pub mod Held
 pub mod Writes
 pub mod Follows
+pub mod Entries
+pub mod Marks
+pub mod Lin
 pub mod Sched
+pub mod Asking
 pub mod Turns
 pub mod TxTurns
 pub mod Bits
@@ -12,10 +16,12 @@ pub mod Tick
 pub mod Take
 pub mod Puts
 pub mod Reception
+pub mod Responses
 pub mod Sets
 pub mod Fullness
 pub mod Lengths
 pub mod Opened
 pub mod Worlds
 pub mod All
+pub mod Once
 pub mod Listing

@@ -13,13 +13,13 @@ use Rattle.plan.specs.Check.{checkPlan}
 use Rattle.plan.specs.Rows.{txOf, rowsOf, nodesIn, noRow}
 use Rattle.facts.proofs.GoodFacts.{good-facts}
 use Rattle.area.specs.Layout.{LongEnough}
-use Rattle.area.specs.Queue.{endsOf, entries, queueOf}
+use Rattle.area.specs.Queue.{endsOf, entryOf, entries, queueOf}
 use Rattle.opening.specs.Opened.{opened}
 use Rattle.tables.proofs.Opened.{opened-reads}
 use Rattle.tables.proofs.TxOpened.{opened-bytes}
 use Rattle.sending.proofs.Begin.{begins as ready}
 use Rattle.model.specs.Plan.{said}
-use Rattle.model.specs.Opening.{begun}
+use Rattle.model.specs.Opening.{mapped, begun}
 use Rattle.model.proofs.Begins.{begins, mapped-at}
 use Rattle.model.proofs.PlanBytes.{plan-payload}
 use Rattle.refines.specs.Shows.{Shows}
@@ -31,7 +31,7 @@ module _ (plan a : List ℕ) (n t r : ℕ) (e : checkPlan plan ≡ Good n t r) (
   empty m z = rw z
 
   shows : Shows plan (opened plan a) (begun (said plan))
-  unfolding begun counterAfter
+  unfolding begun mapped counterAfter
   shows =
       let b = opened-reads plan a n t r e long .1 in
       let good = good-facts plan n t r e .0 in
@@ -43,7 +43,8 @@ module _ (plan a : List ℕ) (n t r : ℕ) (e : checkPlan plan ≡ Good n t r) (
         txTimers = λ k l. b .txTimer k l ∙ sym (mapped-at (λ x. x .initial) noTx 0 (txOf plan) k l);
         rxTimers = λ k l. b .rxTimer k l ∙ sym (mapped-at (λ x. x .frame .initial) noRow 0 (rowsOf plan) k l);
         longs = λ k l. b .long k l ∙ sym (mapped-at (λ x. x .frame .long) noRow 0 (rowsOf plan) k l);
-        queues = λ m l. empty m (b .empty m (omega (arith, good .counts .nodes)) .1) ∙ sym (getD-replicate (nodesIn (records plan)) m [] [] l);
+        queues =
+            λ m l. ap (mapped entryOf) (empty m (b .empty m (omega (arith, good .counts .nodes)) .1)) ∙ sym (getD-replicate (nodesIn (records plan)) m [] [] l);
       }
 
   pub held-opened : Bytes plan → Held plan (opened plan a) (begun (said plan))

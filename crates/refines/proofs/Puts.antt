@@ -13,11 +13,14 @@ use Rattle.area.specs.Layout.{spot, order, txFrame, claims}
 use Rattle.area.specs.Claims.{accepted, sentIf, doneBy, sentBy, done, allDone}
 use Rattle.area.proofs.ClaimLaws.{fitting-spot}
 use Rattle.reception.specs.Reception.{restarted, acceptedArea}
+use Rattle.polling.specs.Polling.{longAgain}
+use Rattle.polling.specs.Polling as lin
 use Rattle.tables.specs.Reads.{rowAt}
-use Rattle.model.specs.Plan.{said, txIn}
-use Rattle.model.specs.State.{State}
+use Rattle.model.specs.Plan.{said, txIn, rowIn}
+use Rattle.model.specs.State.{State, withLong}
 use Rattle.model.specs.Reception.{putBy, put}
 use Rattle.model.specs.Reception as model
+use Rattle.model.specs.Response as response
 use Rattle.model.proofs.Lawful.{Lawful}
 use Rattle.refines.proofs.Held.{Held}
 use Rattle.refines.proofs.Writes.{write-rx, write-long}
@@ -73,6 +76,20 @@ module _ {plan : List ℕ} (lawful : Lawful (said plan)) where
   held-restarted {a} {s} h r l =
       let small : r % 256 ≡ r = omega (arith, h .good .counts .rx) in
       rw (small, h .reads .rx r l .reload, h .reads .rx r l .frame) (write-long (write-rx h r _ l) r _ l)
+
+  -- of a response the long counter alone starts again
+
+  held-again : {a : List ℕ} {s : State} → Held plan a s → (r : ℕ) → r < length (rowsOf plan)
+      → Held plan (longAgain a r) (withLong s r (rowIn (said plan) r .frame .long))
+  unfolding longAgain
+  held-again h r l = rw (h .reads .rx r l .frame) (write-long h r _ l)
+
+  pub held-response : {a : List ℕ} {s : State} → Held plan a s → (r : ℕ) → r < length (rowsOf plan) → (payload : List ℕ)
+      → Held plan (lin.acceptedArea a r payload) (response.accepted (said plan) s r payload)
+  unfolding lin.acceptedArea response.accepted
+  held-response {a} {s} h r l payload =
+      rw (h .reads .rx r l .claims)
+      (held-puts (order a) r (h .reads .header .order) payload (rowAt plan r .claims) (held-again h r l) (lawful .frame r l) (lawful .bits r l))
 
   pub held-accepted : {a : List ℕ} {s : State} → Held plan a s → (r : ℕ) → r < length (rowsOf plan) → (payload : List ℕ)
       → Held plan (acceptedArea a r payload) (model.accepted (said plan) s r payload)

@@ -33,6 +33,7 @@ use Rattle.model.proofs.Smaller.{counts}
 use Rattle.history.specs.Calls.{answerIn, areaAfter}
 use Rattle.history.proofs.Strangers.{smaller-run}
 use Rattle.refines.proofs.Held.{Held}
+use Rattle.refines.proofs.Lin.{lin-is}
 use Rattle.refines.proofs.Follows.{Follows, chosen}
 use Rattle.refines.proofs.Puts.{held-accepted}
 
@@ -49,7 +50,7 @@ module _ {plan a : List ℕ} {s : State} (lawful : Lawful (said plan)) (h : Held
         let x = looks .places place e in
         sym (counts (said plan) n id (x .first) place (smaller-run plan n id place x))
 
-    by-lookup : (P : Found → model.Found → Type 0) → ((place : ℕ) → place ≡ smaller n id (rowsOf plan) → P (Nothing place) model.nothing)
+    pub by-lookup : (P : Found → model.Found → Type 0) → ((place : ℕ) → place ≡ smaller n id (rowsOf plan) → P (Nothing place) model.nothing)
         → ((r : ℕ) → r < length (rowsOf plan) → P (At (record { 0 = r })) (model.at r)) → P (lookedUp a n id) (find n id 0 (rowsOf plan))
     by-lookup P none some = go (lookedUp a n id) refl
       where
@@ -66,11 +67,11 @@ module _ {plan a : List ℕ} {s : State} (lawful : Lawful (said plan)) (h : Held
 
   -- ---- the answer and what it leaves
 
-  size-is : (r : ℕ) → r < length (rowsOf plan) → (payload : List ℕ)
+  pub size-is : (r : ℕ) → r < length (rowsOf plan) → (payload : List ℕ)
       → ltb (length payload) (rxFrame a r .size) ≡ ltb (length payload) (rowAt plan r .frame .size)
   size-is r l payload = ap (λ (x : RxFrame). ltb (length payload) (x .size)) (h .reads .rx r l .frame)
 
-  known-is : (n : ℕ) → ltb n (nodeCount a) ≡ ltb n (nodesIn (records plan))
+  pub known-is : (n : ℕ) → ltb n (nodeCount a) ≡ ltb n (nodesIn (records plan))
   known-is n = ap (ltb n) (h .reads .header .nodes)
 
   answered : (n id : ℕ) (payload : List ℕ) → receivedAnswer a n id payload ≡ model.receivedAnswer (said plan) s n id payload
@@ -78,11 +79,12 @@ module _ {plan a : List ℕ} {s : State} (lawful : Lawful (said plan)) (h : Held
   answered n id payload =
       picks _ _ _ (h .reads .header .mark)
       ∙ chosen (λ x y. x ≡ y) _ _ (known-is n)
-      (λ k. chosen (λ x y. x ≡ y) (leb (length payload) 8) _ refl
+      (λ k. chosen (λ x y. x ≡ y) _ _ (lin-is h n (ltb-true n _ k)) (λ c. refl)
+      (λ c. chosen (λ x y. x ≡ y) (leb (length payload) 8) _ refl
       (λ m. by-lookup n id (ltb-true n _ k) (λ f g. foundAnswer a f payload ≡ model.foundAnswer (said plan) n id g payload)
       (λ place e. ap NoRow e)
       (λ r l. chosen (λ x y. x ≡ y) _ _ (size-is r l payload) (λ e. refl) (λ e. refl)))
-      (λ m. refl))
+      (λ m. refl)))
       (λ k. refl)
 
   held-received : (n id : ℕ) (payload : List ℕ) → Held plan (receivedArea a n id payload) (model.received (said plan) s n id payload)
@@ -90,10 +92,11 @@ module _ {plan a : List ℕ} {s : State} (lawful : Lawful (said plan)) (h : Held
   held-received n id payload =
       rw (picks _ _ _ (h .reads .header .mark))
       (chosen (Held plan) _ _ (known-is n)
-      (λ k. chosen (Held plan) (leb (length payload) 8) _ refl
+      (λ k. chosen (Held plan) _ _ (lin-is h n (ltb-true n _ k)) (λ c. h)
+      (λ c. chosen (Held plan) (leb (length payload) 8) _ refl
       (λ m. by-lookup n id (ltb-true n _ k) (λ f g. Held plan (foundArea a f payload) (model.foundState (said plan) s g payload)) (λ place e. h)
       (λ r l. chosen (Held plan) _ _ (size-is r l payload) (λ e. h) (λ e. held-accepted lawful h r l payload)))
-      (λ m. h))
+      (λ m. h)))
       (λ k. h))
 
   pub reception-follows : (n id : ℕ) (payload : List ℕ) → Follows plan a s (calls.reception n id payload)

@@ -13,7 +13,7 @@ use Rattle.plan.specs.Rows.{Source, copy, failure, widthOf, Claim, txOf, rowsOf
 use Rattle.facts.specs.Good.{Each}
 use Rattle.area.specs.Layout.{rxReload, rxTimer, order, claims, spot}
 use Rattle.area.specs.Claims.{expired, doneBy, sentBy, done, allDone}
-use Rattle.ticking.specs.Tick.{timed, longLowered, expiredArea, rxTick, rxTicks}
+use Rattle.ticking.specs.Tick.{timed, longLowered, expiredArea, rxExpiry, rxTick, rxTicks}
 use Rattle.tables.specs.Reads.{rowAt}
 use Rattle.refines.proofs.Prescalers.{rx-prescaler}
 use Rattle.refines.proofs.Prescalers.{mask-divides}
@@ -23,7 +23,9 @@ use Rattle.model.specs.Tick.{handled, failedBy, failed, rxLowered, rxTurn, rxTu
 use Rattle.model.specs.Tick as model
 use Rattle.model.proofs.Lawful.{Lawful}
 use Rattle.refines.proofs.Held.{Held}
+use Rattle.refines.proofs.Lin.{row-lin}
 use Rattle.refines.proofs.Writes.{write-rx, write-long}
+use Rattle.refines.proofs.Asking.{held-requested}
 use Rattle.refines.proofs.Bits.{held-setBit}
 use Rattle.refines.proofs.Follows.{chosen}
 use Rattle.refines.proofs.Turns.{failed-bits, rx-turns}
@@ -57,7 +59,7 @@ module _ {plan : List ℕ} (lawful : Lawful (said plan)) where
       rw (h .reads .rx r l .reload, h .shows .rxTimers r l) in
       rw e (write-rx h r _ l)
 
-  held-expired : {a : List ℕ} {s : State} → Held plan a s → (r : ℕ) → r < length (rowsOf plan)
+  pub held-expired : {a : List ℕ} {s : State} → Held plan a s → (r : ℕ) → r < length (rowsOf plan)
       → Held plan (expiredArea a r) (model.expired (said plan) s r)
   unfolding expiredArea longLowered model.expired
   held-expired {a} {s} h r l =
@@ -67,13 +69,19 @@ module _ {plan : List ℕ} (lawful : Lawful (said plan)) where
       let f = y .shows .longs r l ∙ failed-bits (said plan) r cs s .long in
       rw (y .reads .rx r l .frame, f) (write-long y r _ l)
 
+  held-expiry : {a : List ℕ} {s : State} → Held plan a s → (r : ℕ) → r < length (rowsOf plan)
+      → Held plan (rxExpiry a r) (model.rxExpiry (said plan) s r)
+  unfolding rxExpiry model.rxExpiry
+  held-expiry h r l =
+      chosen (Held plan) _ _ (row-lin h r l) (λ on. held-requested h r l on) (λ off. held-expired h r l)
+
   held-rxTick : {a : List ℕ} {s : State} (k : ℕ) → Held plan a s → k ≡ counterAfter (s .number) → (r : ℕ) → r < length (rowsOf plan)
       → Held plan (rxTick k a r) (rxTurn (said plan) s r)
   unfolding rxTick rxTurn handled
   held-rxTick {a} {s} k h e r l =
       let m = held-timed h r l in
       chosen (Held plan) _ _ (mask-divides (rx-prescaler plan (h .good) r l) (s .number) k _ e (h .reads .rx r l .mask))
-      (λ d. chosen (Held plan) _ _ (ap (λ v. eqb v 1) (h .shows .rxTimers r l)) (λ f. held-expired m r l) (λ f. m))
+      (λ d. chosen (Held plan) _ _ (ap (λ v. eqb v 1) (h .shows .rxTimers r l)) (λ f. held-expiry m r l) (λ f. m))
       (λ d. h)
 
   pub held-rxTicks : {a : List ℕ} {s : State} (k n : ℕ) → Held plan a s → k ≡ counterAfter (s .number) → n ≤ length (rowsOf plan)

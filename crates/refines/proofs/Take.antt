@@ -2,7 +2,7 @@
 use mathlib.Core.Path.{_≡_, refl, sym, ap, _∙_}
 use mathlib.Core.Bool.{Bool, true, false}
 use mathlib.Core.List.{List, [], _∷_}
-use Prim.Native.Nat.{ℕ, _%_, _≤_, _<_}
+use Prim.Native.Nat.{ℕ, _+_, _%_, _≤_, _<_}
 use native.Mathlib.Omega.{arith}
 use native.Mathlib.Decide.{ℕ-discrete}
 use lib.Dec.{ltb}
@@ -11,25 +11,33 @@ use lib.Seq.{getD-set-same, getD-set-other, ext-getD, length-take-le, getD-take,
 use borrow.Author.Tests.{ltb-true, le-leb}
 use Rattle.base.specs.Pick.{pick}
 use Rattle.base.proofs.Picks.{picks, passes}
+use Rattle.records.specs.declared.record.Entry.{Entry}
 use Rattle.records.specs.Records.{records}
-use Rattle.plan.specs.Rows.{txOf, nodesIn}
-use Rattle.area.specs.Layout.{counterByte, areaLength, payloadsStart, LongEnough, payload, nodeCount, inWidth}
-use Rattle.area.specs.Queue.{queueOf}
+use Rattle.records.specs.Nodes.{frame, request}
+use Rattle.plan.specs.Rows.{txOf, rowsOf, nodesIn}
+use Rattle.area.specs.Layout.{counterByte, areaLength, payloadsStart, requestsStart, LongEnough, payload, nodeCount, inWidth}
+use Rattle.area.specs.Queue.{entryOf, queueOf}
 use Rattle.answers.specs.declared.Taken.the-variants as handed
 use Rattle.answers.specs.declared.Refusal.the-variants.{NoNode}
 use Rattle.taking.specs.Taken.{takenAnswer, takenArea, takenPayload, keptPart}
 use Rattle.tables.specs.Reads.{plannedTx}
 use Rattle.history.proofs.Aside.{Aside, aside-taken}
 use Rattle.history.proofs.Steady.{steady-aside, reads-steady, kept-steady}
+use Rattle.sending.proofs.Waiters.{CanWait, of-frame, of-request}
+use Rattle.sending.proofs.Entries.{entry-frame, entry-request}
 use Rattle.sending.proofs.Handing.{Takes}
 use Rattle.sending.proofs.Holding.{holding-kept}
 use Rattle.sending.proofs.Takes.{queues-taken}
 use Rattle.sending.proofs.Handing.{takes}
 use Rattle.refines.proofs.Untaken.{untaken}
+use Rattle.model.specs.Plan.{said}
 use Rattle.model.specs.State.{State, keptOf, queueOn, withQueue}
+use Rattle.model.specs.Opening.{mapped}
 use Rattle.model.specs.Take as model
+use Rattle.model.proofs.Begins.{mapped-length}
 use Rattle.model.specs.Calls as calls
 use Rattle.history.specs.Calls.{answerIn, areaAfter}
+use Rattle.refines.specs.Shows.{waitingOn}
 use Rattle.refines.proofs.Held.{Held, below}
 use Rattle.refines.proofs.Follows.{Follows}
 
@@ -38,12 +46,32 @@ payloads : Aside (λ j. payloadsStart ≤ j)
 payloads =
     record { ends = λ n h j l m p. omega arith; ring = λ j l m p. omega arith; timers = λ j l m p. omega arith; waits = λ j l m p. omega arith }
 
+-- the kept payload of Tx frame t, byte by byte
+kept-part : {plan a : List ℕ} {s : State} → Held plan a s → (t : ℕ) → t < length (txOf plan)
+    → keptPart a t (plannedTx plan t .size) ≡ take (plannedTx plan t .size) (keptOf s t)
+unfolding keptPart
+kept-part {plan} {a} {s} h t m =
+    let small : plannedTx plan t .size ≤ 8 = h .ready .holding .fit .size t m in
+    let size : LongEnough a = h .reads .header .size in
+    let i : t % 256 ≡ t = omega (arith, h .good .counts .tx) in
+    let j : inWidth (plannedTx plan t .size) ≡ plannedTx plan t .size = omega arith in
+    let eight = h .shape .payload t m .eight in
+    let left : length (take (plannedTx plan t .size) (drop (payload t) a)) ≡ plannedTx plan t .size =
+    length-take-le (plannedTx plan t .size) (drop (payload t) a) (rw length-drop (omega (arith, h .good .counts .tx))) in
+    let right : length (take (plannedTx plan t .size) (keptOf s t)) ≡ plannedTx plan t .size =
+    length-take-le (plannedTx plan t .size) (keptOf s t) (omega arith) in
+    rw (picks _ _ _ (le-leb areaLength (length a) size), i, j)
+    (ext-getD 0 _ _ (left ∙ sym right)
+    (λ q k.
+    getD-take (plannedTx plan t .size) (drop (payload t) a) q 0 (omega arith) ∙ getD-drop (payload t) a q 0 ∙ h .shows .kept t q m (omega arith)
+    ∙ sym (getD-take (plannedTx plan t .size) (keptOf s t) q 0 (omega arith))))
+
 module _ {plan a : List ℕ} {s : State} (h : Held plan a s) (n : ℕ) (l : n < nodesIn (records plan)) where
   law : Takes plan a n
   law = takes (h .reads) (h .ready) n l
 
-  held-left : (t : ℕ) (rest : List ℕ) → queueOf a n ≡ t ∷ rest → Held plan (takenArea a n) (withQueue s n rest)
-  held-left t rest e =
+  held-left : (k : ℕ) (rest : List ℕ) → queueOf a n ≡ k ∷ rest → Held plan (takenArea a n) (withQueue s n (mapped entryOf rest))
+  held-left k rest e =
       let w = h .shape in
       let b = takenArea a n in
       let steady = aside-taken steady-aside a n in
@@ -59,7 +87,7 @@ module _ {plan a : List ℕ} {s : State} (h : Held plan a s) (n : ℕ) (l : n < 
               txTimers = w .txTimers;
               rxTimers = w .rxTimers;
               longs = w .longs;
-              queues = length-set (s .queues) n rest ∙ w .queues;
+              queues = length-set (s .queues) n _ ∙ w .queues;
             };
         shows =
             record {
@@ -72,32 +100,38 @@ module _ {plan a : List ℕ} {s : State} (h : Held plan a s) (n : ℕ) (l : n < 
             };
       }
     where
-      line : (m : ℕ) → m < nodesIn (records plan) → Dec (m ≡ n) → queueOf (takenArea a n) m ≡ getD (set (s .queues) n rest) m []
-      line m k (yes f) = rw f (law .leaves t rest e ∙ sym (getD-set-same (s .queues) n rest [] (omega (arith, h .shape .queues))))
-      line m k (no d) = law .others m (below h m k) d ∙ h .shows .queues m k ∙ sym (getD-set-other (s .queues) n m rest [] d)
+      line : (m : ℕ) → m < nodesIn (records plan) → Dec (m ≡ n) → waitingOn (takenArea a n) m ≡ getD (set (s .queues) n (mapped entryOf rest)) m []
+      line m i (yes f) =
+          rw f (ap (mapped entryOf) (law .leaves k rest e) ∙ sym (getD-set-same (s .queues) n (mapped entryOf rest) [] (omega (arith, h .shape .queues))))
+      line m i (no d) =
+          ap (mapped entryOf) (law .others m (below h m i) d) ∙ h .shows .queues m i ∙ sym (getD-set-other (s .queues) n m (mapped entryOf rest) [] d)
 
-  -- the payload, byte by byte
-  handed-back : (t : ℕ) (rest : List ℕ) → queueOf a n ≡ t ∷ rest → t < length (txOf plan)
-      → takenPayload (takenArea a n) (takenAnswer a n) ≡ take (plannedTx plan t .size) (keptOf s t)
-  unfolding takenPayload keptPart
-  handed-back t rest e m =
-      let b = takenArea a n in
-      let x = held-left t rest e in
-      let few : t < 256 = omega (arith, h .good .counts .tx) in
-      let small : plannedTx plan t .size ≤ 8 = h .ready .holding .fit .size t m in
-      let size : LongEnough b = x .reads .header .size in
-      let i : t % 256 ≡ t = omega arith in
-      let j : inWidth (plannedTx plan t .size) ≡ plannedTx plan t .size = omega arith in
-      let eight = h .shape .payload t m .eight in
-      let left : length (take (plannedTx plan t .size) (drop (payload t) b)) ≡ plannedTx plan t .size =
-      length-take-le (plannedTx plan t .size) (drop (payload t) b) (rw length-drop (omega arith)) in
-      let right : length (take (plannedTx plan t .size) (keptOf s t)) ≡ plannedTx plan t .size =
-      length-take-le (plannedTx plan t .size) (keptOf s t) (omega arith) in
-      rw (law .oldest t rest e, picks _ _ _ (le-leb areaLength (length b) size), i, j)
-      (ext-getD 0 _ _ (left ∙ sym right)
-      (λ q k.
-      getD-take (plannedTx plan t .size) (drop (payload t) b) q 0 (omega arith) ∙ getD-drop (payload t) b q 0 ∙ x .shows .kept t q m (omega arith)
-      ∙ sym (getD-take (plannedTx plan t .size) (keptOf s t) q 0 (omega arith))))
+  -- what the state has in its queue
+  queued : (k : ℕ) (rest : List ℕ) → queueOf a n ≡ k ∷ rest → queueOn s n ≡ entryOf k ∷ mapped entryOf rest
+  unfolding mapped
+  queued k rest e = sym (h .shows .queues n l) ∙ ap (mapped entryOf) e
+
+  -- the answers, of a frame and of a request
+  frame-answered : (t : ℕ) (rest : List ℕ) → queueOf a n ≡ t ∷ rest → t < length (txOf plan)
+      → takenAnswer a n ≡ model.entryAnswer (said plan) s n (frame t) (length (mapped entryOf rest))
+  unfolding model.entryAnswer model.framingOf model.handed
+  frame-answered t rest e m = law .frame t rest e m ∙ rw (kept-part h t m, mapped-length entryOf rest)
+
+  request-answered : (r : ℕ) (rest : List ℕ) → queueOf a n ≡ (requestsStart + r) ∷ rest → r < length (rowsOf plan)
+      → takenAnswer a n ≡ model.entryAnswer (said plan) s n (request r) (length (mapped entryOf rest))
+  unfolding model.entryAnswer
+  request-answered r rest e m = law .request r rest e m ∙ rw (mapped-length entryOf rest)
+
+  -- and the payload
+  frame-handed : (t : ℕ) (rest : List ℕ) (e : queueOf a n ≡ t ∷ rest) → t < length (txOf plan)
+      → takenPayload (takenArea a n) (takenAnswer a n) ≡ model.handed (said plan) s (frame t)
+  unfolding takenPayload model.handed
+  frame-handed t rest e m = rw (law .frame t rest e m) (kept-part (held-left t rest e) t m)
+
+  request-handed : (r : ℕ) (rest : List ℕ) (e : queueOf a n ≡ (requestsStart + r) ∷ rest) → r < length (rowsOf plan)
+      → takenPayload (takenArea a n) (takenAnswer a n) ≡ model.handed (said plan) s (request r)
+  unfolding takenPayload model.handed
+  request-handed r rest e m = rw (law .request r rest e m)
 
 module _ {plan a : List ℕ} {s : State} (h : Held plan a s) where
   refused-answer : (n : ℕ) → ltb n (nodeCount a) ≡ false → takenAnswer a n ≡ handed.Refused NoNode
@@ -113,26 +147,41 @@ module _ {plan a : List ℕ} {s : State} (h : Held plan a s) where
       model.oldestPayload model.withoutOldest takenPayload pick
   take-follows n = go (ltb n (nodesIn (records plan))) refl
     where
-      on : ltb n (nodesIn (records plan)) ≡ true → (q : List ℕ) → queueOn s n ≡ q → Follows plan a s (calls.take n)
-      on k [] e =
+      -- what leaves is entry x of the model
+      leaves : (k : ltb n (nodesIn (records plan)) ≡ true) (i : ℕ) (rest : List ℕ) (x : Entry) → queueOf a n ≡ i ∷ rest → entryOf i ≡ x
+          → takenAnswer a n ≡ model.entryAnswer (said plan) s n x (length (mapped entryOf rest))
+          → takenPayload (takenArea a n) (takenAnswer a n) ≡ model.handed (said plan) s x → Follows plan a s (calls.take n)
+      leaves k i rest x e is answered handed =
           let l = ltb-true n _ k in
-          let w = law h n l .none (h .shows .queues n l ∙ e) in
-          record { answer = rw (w .0, k, e); held = rw (w .1, k, e) h }
-      on k (t ∷ rest) e =
-          let l = ltb-true n _ k in
-          let f = h .shows .queues n l ∙ e in
-          let line = h .ready .queues .queue n (below h n l) in
-          let exists : t < length (txOf plan) = rw f at (line .frame 0 (rw f (omega arith))) in
+          let q : queueOn s n ≡ x ∷ mapped entryOf rest = queued h n l i rest e ∙ rw is in
           record {
             answer =
-                ap (λ x. calls.taken (takenAnswer a n) x) (handed-back h n l t rest f exists)
-                ∙ ap (λ x. calls.taken x (take (plannedTx plan t .size) (keptOf s t))) (law h n l .oldest t rest f)
-                ∙ rw (k, e);
-            held = rw (k, e) (held-left h n l t rest f);
+                ap (λ z. calls.taken (takenAnswer a n) z) handed ∙ ap (λ z. calls.taken z (model.handed (said plan) s x)) answered
+                ∙ rw (k, q);
+            held = rw (k, q) (held-left h n l i rest e);
           }
 
+      frames : (k : ltb n (nodesIn (records plan)) ≡ true) (i : ℕ) (rest : List ℕ) → queueOf a n ≡ i ∷ rest → CanWait plan n i
+          → Follows plan a s (calls.take n)
+      frames k i rest e (of-frame m f) =
+          let l = ltb-true n _ k in
+          leaves k i rest (frame i) e (entry-frame i (omega (arith, h .good .counts .tx))) (frame-answered h n l i rest e m)
+          (frame-handed h n l i rest e m)
+      frames k i rest e (of-request r is m f lin) =
+          let l = ltb-true n _ k in
+          let g : queueOf a n ≡ (requestsStart + r) ∷ rest = e ∙ rw is in
+          leaves k (requestsStart + r) rest (request r) g (entry-request r) (request-answered h n l r rest g m) (request-handed h n l r rest g m)
+
+      on : ltb n (nodesIn (records plan)) ≡ true → (q : List ℕ) → queueOf a n ≡ q → Follows plan a s (calls.take n)
+      on k [] e =
+          let l = ltb-true n _ k in
+          let w = law h n l .none e in
+          let q : queueOn s n ≡ [] = sym (h .shows .queues n l) ∙ (unfold mapped in ap (mapped entryOf) e) in
+          record { answer = rw (w .0, k, q); held = rw (w .1, k, q) h }
+      on k (i ∷ rest) e = frames k i rest e (law h n (ltb-true n _ k) .can i rest e)
+
       go : (b : Bool) → ltb n (nodesIn (records plan)) ≡ b → Follows plan a s (calls.take n)
-      go true k = on k (queueOn s n) refl
+      go true k = on k (queueOf a n) refl
       go false k =
           let m : ltb n (nodeCount a) ≡ false = ap (ltb n) (h .reads .header .nodes) ∙ k in
           record { answer = rw (refused-answer n m, k); held = rw (refused-area n m, k) h }

@@ -13,17 +13,18 @@ use Rattle.plan.specs.Rows.{txOf, rowsOf}
 use Rattle.area.specs.Layout.{counter}
 use Rattle.answers.specs.declared.Ticked.the-variants.{Done, Refused}
 use Rattle.answers.specs.declared.Refusal.the-variants.{ShortReport}
-use Rattle.ticking.specs.Tick.{txTicks, rxTicks, expiredReport, rxReport, reported, ticked, tickAnswer, tickedArea, tickedReport}
+use Rattle.ticking.specs.Tick.{txTicks, rxTicks, expiredReport, expiryReport, rxReport, reported, ticked, tickAnswer, tickedArea, tickedReport}
 use Rattle.refines.proofs.Prescalers.{rx-prescaler}
 use Rattle.refines.proofs.Prescalers.{mask-divides}
 use Rattle.model.specs.Plan.{Plan, said}
 use Rattle.model.specs.State.{State}
-use Rattle.model.specs.Tick.{handled, txTurns, rxTurns, reportOf, tickedState, tickReport}
+use Rattle.model.specs.Tick.{handled, txTurns, rxTurns, timeoutOf, reportOf, tickedState, tickReport}
 use Rattle.model.specs.Tick as model
 use Rattle.model.specs.Calls as calls
 use Rattle.model.proofs.Lawful.{Lawful}
 use Rattle.history.specs.Calls.{answerIn, areaAfter}
 use Rattle.refines.proofs.Held.{Held}
+use Rattle.refines.proofs.Lin.{row-lin}
 use Rattle.refines.proofs.Writes.{write-counter}
 use Rattle.refines.proofs.Follows.{Follows, chosen}
 use Rattle.refines.proofs.Turns.{Later, later-then, tx-turns, rx-turns}
@@ -33,15 +34,15 @@ use Rattle.refines.proofs.RxTurns.{held-rxTicks}
 -- ---- the report's byte of a row is by what the row was before the tick
 
 later-report : (p : Plan) {r : ℕ} {s x : State} → Later r s x → reportOf p x r ≡ reportOf p s r
-unfolding reportOf handled
+unfolding reportOf model.expiryReport timeoutOf handled
 later-report p l = rw (l .number, l .timer, l .long)
 
 row-report : {plan a : List ℕ} {s : State} (k : ℕ) → Held plan a s → k ≡ counterAfter (s .number) → (r : ℕ) → r < length (rowsOf plan)
     → rxReport k a r ≡ reportOf (said plan) s r
-unfolding rxReport expiredReport reportOf handled
+unfolding rxReport expiryReport expiredReport reportOf model.expiryReport timeoutOf handled
 row-report {plan} {a} {s} k h e r l =
     chosen (λ x y. x ≡ y) _ _ (mask-divides (rx-prescaler plan (h .good) r l) (s .number) k _ e (h .reads .rx r l .mask))
-    (λ d. rw (h .shows .rxTimers r l, h .shows .longs r l))
+    (λ d. rw (h .shows .rxTimers r l, h .shows .longs r l, row-lin h r l))
     (λ d. refl)
 
 module _ {plan a : List ℕ} {s : State} (lawful : Lawful (said plan)) (h : Held plan a s) where

@@ -10,8 +10,8 @@ use Rattle.base.proofs.Picks.{both}
 use Rattle.plan.specs.Rows.{Source, copy, failure, Claim}
 use Rattle.model.specs.Plan.{Plan, rowIn}
 use Rattle.model.specs.State.{State}
-use Rattle.model.specs.Scheduling.{joined, scheduled}
-use Rattle.model.specs.Tick.{txLowered, txTurn, txTurns, failedBy, failed, expired, rxLowered, rxTurn, rxTurns}
+use Rattle.model.specs.Scheduling.{joined, scheduled, asked, requested}
+use Rattle.model.specs.Tick.{txLowered, txTurn, txTurns, failedBy, failed, expired, rxExpiry, rxLowered, rxTurn, rxTurns}
 
 -- x is a state after s in which row r is as it was
 pub record Later (r : ℕ) (s x : State) : Type 0 where
@@ -56,18 +56,20 @@ module _ (p : Plan) (r : ℕ) where
       one failure = unfold failedBy in record { number = refl; timer = refl; long = refl }
 
   rx-turn : (s : State) (q : ℕ) → r ≢ q → Later r s (rxTurn p s q)
-  unfolding rxTurn rxLowered expired
+  unfolding rxTurn rxLowered rxExpiry requested asked expired
   rx-turn s q d =
       let P = Later r s in
       let w = failed-bits (rowIn p q .claims) (rxLowered p s q) in
       let timer = getD-set-other (s .rxTimers) q r _ 0 d in
       both P _ _ _
       (both P _ _ _
+      (both P _ _ _
+      (both P _ _ _ (record { number = refl; timer = timer; long = refl }) (record { number = refl; timer = timer; long = refl }))
       (record {
         number = w .number;
         timer = w .timer ∙ timer;
         long = getD-set-other (failed p (rxLowered p s q) (rowIn p q .claims) .longs) q r _ 0 d ∙ w .long;
-      })
+      }))
       (record { number = refl; timer = timer; long = refl }))
       later-same
 

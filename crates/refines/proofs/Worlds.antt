@@ -18,10 +18,11 @@ use Rattle.answers.specs.declared.Refusal.the-variants.{Plan as BadPlan, ShortA
 use Rattle.answers.specs.declared.Opened.the-variants.{Refused}
 use Rattle.opening.specs.Opened.{openedAnswer, openedArea}
 use Rattle.reception.specs.Reception.{receivedAnswer, receivedArea}
+use Rattle.polling.specs.Polling.{respondedAnswer, respondedArea, silentAnswer, silentArea}
 use Rattle.ticking.specs.Tick.{tickAnswer, tickedArea, tickedReport}
 use Rattle.taking.specs.Taken.{takenAnswer, takenArea, takenPayload, fullnessAnswer}
 use Rattle.model.specs.Opening.{openAnswer}
-use Rattle.model.specs.Calls.{Call, reception, tick, take, fullness, World, closed, holding, refusedClosed, nextFrom, openNext}
+use Rattle.model.specs.Calls.{Call, reception, response, noResponse, tick, take, fullness, World, closed, holding, refusedClosed, nextFrom, openNext}
 use Rattle.model.specs.Calls as model
 use Rattle.model.proofs.Lawful.{lawful}
 use Rattle.history.specs.Calls.{answerIn, areaAfter}
@@ -31,6 +32,7 @@ use Rattle.refines.proofs.Follows.{Follows, chosen}
 use Rattle.refines.proofs.Tick.{tick-follows}
 use Rattle.refines.proofs.Take.{take-follows}
 use Rattle.refines.proofs.Reception.{reception-follows}
+use Rattle.refines.proofs.Responses.{response-follows, silence-follows}
 use Rattle.refines.proofs.Fullness.{fullness-follows}
 use Rattle.refines.proofs.Opened.{held-opened}
 
@@ -73,14 +75,19 @@ stands a (holding plan s) k = (is-marked a (k .reads .header .mark), k .shows)
 
 -- where nothing is open it is refused, and "A refusal writes nothing."
 shut : (a : List ℕ) → marked a ≡ false → (c : Call) → (answerIn a c ≡ refusedClosed c) × (areaAfter a c ≡ a)
-unfolding answerIn areaAfter refusedClosed receivedAnswer receivedArea tickAnswer tickedArea tickedReport takenAnswer takenArea takenPayload fullnessAnswer pick
+unfolding answerIn areaAfter refusedClosed receivedAnswer receivedArea respondedAnswer respondedArea silentAnswer silentArea tickAnswer tickedArea tickedReport
+    takenAnswer takenArea takenPayload fullnessAnswer pick
 shut a m (reception n id payload) = (rw m, rw m)
+shut a m (response n id payload sum) = (rw m, rw m)
+shut a m (noResponse n id) = (rw m, rw m)
 shut a m (tick report) = (rw m, rw m)
 shut a m (take n) = (rw m, rw m)
 shut a m (fullness t) = (rw m, refl)
 
 follows : {plan a : List ℕ} {s : _} → Held plan a s → (c : Call) → Follows plan a s c
 follows {plan} h (reception n id payload) = reception-follows (lawful plan (h .good)) h n id payload
+follows {plan} h (response n id payload sum) = response-follows (lawful plan (h .good)) h n id payload sum
+follows {plan} h (noResponse n id) = silence-follows (lawful plan (h .good)) h n id
 follows {plan} h (tick report) = tick-follows (lawful plan (h .good)) h report
 follows h (take n) = take-follows h n
 follows h (fullness t) = fullness-follows h t

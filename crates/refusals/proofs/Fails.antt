@@ -4,7 +4,7 @@ use mathlib.Core.Logic.{_≢_, inl, inr, ⊎-elim}
 use mathlib.Core.Bool.{Bool, true, false, not, _&&_, _||_, true≢false}
 use Prim.Native.Nat.{ℕ, _+_, _≤_, _<_}
 use lib.Dec.{leb, ltb, eqb}
-use borrow.Author.Tests.{ltb-false, leb-false, eqb-false, le-ltb, lt-leb, ne-eqb}
+use borrow.Author.Tests.{ltb-false, leb-false, eqb-true, eqb-false, le-ltb, lt-leb, eq-eqb, ne-eqb, not-false}
 use Rattle.bits.specs.Digit.{digit}
 use Rattle.bits.specs.Owners.{clash}
 use Rattle.bits.proofs.OwnerLaws.{clash-exactly}
@@ -22,6 +22,9 @@ most a b = record { says = leb-false a b; back = lt-leb a b }
 
 pub equal : (a b : ℕ) → Fails (eqb a b) (a ≢ b)
 equal a b = record { says = eqb-false a b; back = ne-eqb a b }
+
+pub unequal : (a b : ℕ) → Fails (not (eqb a b)) (a ≡ b)
+unequal a b = record { says = λ e. eqb-true a b (not-false _ e); back = λ e. ap not (eq-eqb a b e) }
 
 pub both : {x y : Bool} {A B : Type 0} → Fails x A → Fails y B → Fails (x && y) (A or B)
 both {x} {y} {A} {B} f g = record { says = says x f; back = λ w. ⊎-elim (λ a. left x (f .back a)) (λ b. right x (g .back b)) w }

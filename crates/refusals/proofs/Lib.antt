@@ -4,6 +4,7 @@ pub mod Reading
 pub mod Awaiting
 pub mod Standing
 pub mod Sizes
+pub mod LinNodes
 pub mod Claimed
 pub mod SoFar
 pub mod Fails

@@ -1,20 +1,25 @@
--- The test of 3 fails exactly where that line applies.
+-- The tests of 3 fail exactly where those lines apply.
 use mathlib.Core.Path.{_≡_, refl, ap}
 use mathlib.Core.Logic.{_⊎_, inl, inr}
-use mathlib.Core.Bool.{true, false≢true}
+use mathlib.Core.Bool.{true, false, not, _||_, true≢false, false≢true}
 use mathlib.Core.List.{List, [], _∷_, _++_}
-use Prim.Native.Nat.{_<_}
+use Prim.Native.Nat.{ℕ, _<_}
 use native.Mathlib.Omega.{arith}
+use lib.Dec.{eqb}
 use borrow.Author.Tests.{eqb-true, lt-ltb}
+use Rattle.records.specs.declared.record.NodeBody.{NodeBody}
 use Rattle.records.specs.declared.record.Record.{Record}
 use Rattle.records.specs.Kinds.{stageOf}
-use Rattle.plan.specs.Tests.{mayStand}
+use Rattle.plan.specs.Tests.{mayStand, canFirst}
+use Rattle.facts.specs.Good.{countOf}
 use Rattle.facts.specs.Statements.{State}
+use Rattle.refusals.specs.Before.{_and_, LinBefore}
 use Rattle.refusals.specs.Places.{MayFollow, head-node, node-node, head-tx, node-tx, tx-tx, any-rx, rx-signal, signal-signal}
 use Rattle.refusals.specs.Places.{destination-signal, signal-destination, destination-destination, MayStand, first, next, Misplaced}
-use Rattle.refusals.proofs.Passing.{Whole, head, node, tx-frame, rx-frame, signal, destination, stageIn}
+use Rattle.refusals.specs.Places.{CanAfterLin, can-node}
+use Rattle.refusals.proofs.Passing.{Whole, head, node, tx-frame, rx-frame, signal, destination, countsIn, stageIn}
 use Rattle.refusals.proofs.SoFar.{SoFar}
-use Rattle.refusals.proofs.Fails.{Fails, negation}
+use Rattle.refusals.proofs.Fails.{Fails, equal, unequal, either, by, negation}
 
 -- ---- what may follow a record
 
@@ -105,3 +110,33 @@ place before s h r w = negation (mayStand (stageIn s) r) (λ e. go e (ends befor
     go e (inr (front, y, split)) =
         let l = h .next front y split in
         next before front y r split (may-follow y r w (l .0) (rw (l .1) at e))
+
+-- ---- a CAN node after a LIN node
+
+module _ (before : List Record) (s : State) (h : SoFar before s) where
+  node-test :
+      (body : NodeBody)
+      → Fails (not (eqb (body .of) 0) || eqb (countsIn s .can) (countsIn s .nodes)) ((body .of ≡ 0) and ((n : ℕ) × LinBefore n before))
+  node-test body =
+      by (either (unequal (body .of) 0) (equal (countsIn s .can) (countsIn s .nodes)))
+      (λ w. (w .0, (countsIn s .can, h .lin (countsIn s .can) (omega (arith, h .can)) (fewer (w .1)))))
+      (λ w. (w .0, λ e. omega (arith, e, h .can, h .nodes, h .above (w .1 .0) (w .1 .1))))
+    where
+      fewer : (countsIn s .can ≡ countsIn s .nodes → ⊥) → countsIn s .can < countOf 2 before
+      fewer d = omega (arith, d, h .can, h .nodes, h .cans)
+
+  is-after : (r : Record) → Whole r → canFirst (countsIn s) r ≡ false → CanAfterLin before r
+  unfolding canFirst
+  is-after r (head order) e = absurd (true≢false e)
+  is-after r (node body) e = let w = node-test body .says e in can-node body (w .0) (w .1 .0) (w .1 .1)
+  is-after r (tx-frame x) e = absurd (true≢false e)
+  is-after r (rx-frame x) e = absurd (true≢false e)
+  is-after r (signal g) e = absurd (true≢false e)
+  is-after r (destination t) e = absurd (true≢false e)
+
+  not-first : (r : Record) → CanAfterLin before r → canFirst (countsIn s) r ≡ false
+  unfolding canFirst
+  not-first r (can-node body z n x) = node-test body .back (z, (n, x))
+
+  pub can-place : (r : Record) → Whole r → Fails (canFirst (countsIn s) r) (CanAfterLin before r)
+  can-place r w = record { says = is-after r w; back = not-first r }

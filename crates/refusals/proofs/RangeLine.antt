@@ -1,7 +1,7 @@
--- The test of 5 fails exactly where that line applies.
+-- The tests of 5 fail exactly where those lines apply.
 use mathlib.Core.Path.{_≡_, refl}
 use mathlib.Core.Logic.{_≢_, inl, inr}
-use mathlib.Core.Bool.{false, _&&_, _||_}
+use mathlib.Core.Bool.{true, false, _&&_, _||_, true≢false}
 use mathlib.Core.List.{List, [], _∷_}
 use Prim.Native.Nat.{ℕ, zero, suc, _≤_, _<_}
 use native.Mathlib.Omega.{arith}
@@ -11,11 +11,12 @@ use Rattle.records.specs.declared.record.Eight.{Eight}
 use Rattle.records.specs.declared.record.TxFrame.{TxFrame}
 use Rattle.records.specs.declared.record.RxFrame.{RxFrame}
 use Rattle.records.specs.declared.record.Record.{Record}
-use Rattle.plan.specs.Tests.{isPrescaler, zeroPast, txInRange, rxInRange, inRange}
+use Rattle.plan.specs.Tests.{isPrescaler, zeroPast, txInRange, rxInRange, inRange, frameFits, fitsNode}
+use Rattle.plan.proofs.TestLaws.{tx-ranges, rx-ranges}
 use Rattle.facts.specs.Good.{countOf}
 use Rattle.facts.specs.Statements.{State}
-use Rattle.refusals.specs.Before.{_or_, _and_}
-use Rattle.refusals.specs.Fields.{NoPrescaler, NotZeroPast, OutOfRange}
+use Rattle.refusals.specs.Before.{_or_, _and_, LinBefore}
+use Rattle.refusals.specs.Fields.{NoPrescaler, NotZeroPast, OutOfRange, OutOfLinRange}
 use Rattle.refusals.specs.Fields as F
 use Rattle.refusals.proofs.Passing.{Whole, head, node, tx-frame, rx-frame, signal, destination, countsIn}
 use Rattle.refusals.proofs.SoFar.{SoFar}
@@ -79,7 +80,7 @@ module _ (before : List Record) where
   outside : (r : Record) → Whole r → inRange (countOf 2 before) r ≡ false → OutOfRange before r
   unfolding inRange
   outside r (head order) e = F.head order (most order 1 .says e)
-  outside r (node body) e = F.node body (equal (body .of) 0 .says e)
+  outside r (node body) e = F.node body (most (body .of) 1 .says e)
   outside r (tx-frame x) e = F.tx-frame x (tx-range _ x .says e)
   outside r (rx-frame x) e = F.rx-frame x (rx-range _ x .says e)
   outside r (signal g) e = F.signal g (signal-range (g .position) (g .size) .says e)
@@ -88,7 +89,7 @@ module _ (before : List Record) where
   not-inside : (r : Record) → OutOfRange before r → inRange (countOf 2 before) r ≡ false
   unfolding inRange
   not-inside r (F.head order l) = most order 1 .back l
-  not-inside r (F.node body l) = equal (body .of) 0 .back l
+  not-inside r (F.node body l) = most (body .of) 1 .back l
   not-inside r (F.tx-frame x l) = tx-range _ x .back l
   not-inside r (F.rx-frame x l) = rx-range _ x .back l
   not-inside r (F.signal g l) = signal-range (g .position) (g .size) .back l
@@ -96,3 +97,32 @@ module _ (before : List Record) where
 
   pub range : (s : State) → SoFar before s → (r : Record) → Whole r → Fails (inRange (countsIn s .nodes) r) (OutOfRange before r)
   range s h r w = rw (h .nodes) (record { says = outside r w; back = not-inside r })
+
+-- ---- on a LIN node
+
+module _ (before : List Record) (s : State) (h : SoFar before s) where
+  frame-test :
+      (on id size : ℕ) → on < countsIn s .nodes
+      → Fails (frameFits (countsIn s .can) on id size) (LinBefore on before and ((59 < id) or (size < 1)))
+  unfolding frameFits
+  frame-test on id size l =
+      by (either (less on (countsIn s .can)) (both (less id 60) (by (less 0 size) (λ k. omega arith) (λ k. omega arith))))
+      (λ w. (h .lin on (omega (arith, w .0, h .can)) (omega (arith, l, h .nodes)), w .1))
+      (λ w. (omega (arith, h .above on (w .0), h .can), w .1))
+
+  no-fit : (r : Record) → Whole r → inRange (countsIn s .nodes) r ≡ true → fitsNode (countsIn s) r ≡ false → OutOfLinRange before r
+  unfolding inRange fitsNode
+  no-fit r (head order) i e = absurd (true≢false e)
+  no-fit r (node body) i e = absurd (true≢false e)
+  no-fit r (tx-frame x) i e = let w = frame-test (x .node) (x .id) (x .size) (tx-ranges _ x i .node) .says e in F.tx-frame x (w .0) (w .1)
+  no-fit r (rx-frame x) i e = let w = frame-test (x .node) (x .id) (x .size) (rx-ranges _ x i .node) .says e in F.rx-frame x (w .0) (w .1)
+  no-fit r (signal g) i e = absurd (true≢false e)
+  no-fit r (destination t) i e = absurd (true≢false e)
+
+  not-fitting : (r : Record) → inRange (countsIn s .nodes) r ≡ true → OutOfLinRange before r → fitsNode (countsIn s) r ≡ false
+  unfolding inRange fitsNode
+  not-fitting r i (F.tx-frame x y w) = frame-test (x .node) (x .id) (x .size) (tx-ranges _ x i .node) .back (y, w)
+  not-fitting r i (F.rx-frame x y w) = frame-test (x .node) (x .id) (x .size) (rx-ranges _ x i .node) .back (y, w)
+
+  pub lin-range : (r : Record) → Whole r → inRange (countsIn s .nodes) r ≡ true → Fails (fitsNode (countsIn s) r) (OutOfLinRange before r)
+  lin-range r w i = record { says = no-fit r w i; back = not-fitting r i }

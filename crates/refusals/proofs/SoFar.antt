@@ -2,7 +2,7 @@
 use mathlib.Core.Path.{_≡_, refl, _∙_}
 use mathlib.Core.Logic.{_↔_}
 use mathlib.Core.List.{List, [], _∷_, _++_}
-use Prim.Native.Nat.{ℕ, _<_}
+use Prim.Native.Nat.{ℕ, _≤_, _<_}
 use native.Mathlib.Nat.{zero-add}
 use native.Mathlib.Omega.{arith}
 use lib.ListN.{length, getD}
@@ -14,22 +14,25 @@ use Rattle.records.specs.Kinds.{stageOf}
 use Rattle.plan.specs.Limits.{idRange}
 use Rattle.plan.specs.Progress.{rowAfter, after, start}
 use Rattle.plan.specs.Tests.{inRange}
+use Rattle.plan.specs.Rows.{cansIn}
 use Rattle.plan.proofs.TestLaws.{rx-ranges}
 use Rattle.facts.specs.Good.{Each, countOf}
 use Rattle.facts.specs.Statements.{State, begun, stepped, stateAfter, AllGo}
 use Rattle.facts.proofs.Owners.{Has}
-use Rattle.refusals.specs.Before.{RxBefore, SignalBefore, TxBefore, Owned}
+use Rattle.refusals.specs.Before.{RxBefore, SignalBefore, TxBefore, LinBefore, Owned}
 use Rattle.refusals.proofs.Passing.{Whole, went, past, all-whole, all-since, rowIn, countsIn, stageIn}
 use Rattle.refusals.proofs.Read.{adds, number, last-stage}
 use Rattle.refusals.proofs.Reading.{Reading, reading, Sized, sized}
 use Rattle.refusals.proofs.Awaiting.{Awaiting, awaiting}
 use Rattle.refusals.proofs.Standing.{Stand, stand}
 use Rattle.refusals.proofs.Sizes.{tx-before, sizes-are}
+use Rattle.refusals.proofs.LinNodes.{few-cans, lin-before, lin-above}
 use Rattle.refusals.proofs.Claimed.{owned-are}
 
 pub record SoFar (before : List Record) (s : State) : Type 0 where
   pub number : s .progress .number ≡ length before
   pub nodes : countsIn s .nodes ≡ countOf 2 before
+  pub can : countsIn s .can ≡ cansIn before
   pub tx : countsIn s .tx ≡ countOf 3 before
   pub rx : countsIn s .rx ≡ countOf 4 before
   pub signals : countsIn s .signals ≡ countOf 5 before
@@ -40,6 +43,9 @@ pub record SoFar (before : List Record) (s : State) : Type 0 where
   pub reading : (x : RxBefore before) → Reading (length (x .front)) (x .frame) (x .since) (rowIn s)
   pub awaits : (x : RxBefore before) → x .frame .enable ≡ 1 → Awaiting (rowIn s .awaits) (x .since)
   pub small : (x : RxBefore before) → x .frame .id < idRange
+  pub cans : cansIn before ≤ countOf 2 before
+  pub lin : (n : ℕ) → cansIn before ≤ n → n < countOf 2 before → LinBefore n before
+  pub above : (n : ℕ) → LinBefore n before → (cansIn before ≤ n) × (n < countOf 2 before)
   pub sized : (x : SignalBefore before) → Sized (x .body .size) (x .destinations) (rowIn s)
   pub frames : (t : ℕ) → t < countOf 3 before → TxBefore t before
   pub sizes : (t : ℕ) (y : TxBefore t before) → getD (s .sizes) t 0 ≡ y .frame .size
@@ -86,6 +92,7 @@ module _ (before : List Record) (g : AllGo begun before) where
       record {
         number = number before begun ∙ zero-add _;
         nodes = a .nodes ∙ zero-add _;
+        can = a .can ∙ zero-add _;
         tx = a .tx ∙ zero-add _;
         rx = a .rx ∙ zero-add _;
         signals = a .signals ∙ zero-add _;
@@ -98,6 +105,9 @@ module _ (before : List Record) (g : AllGo begun before) where
         reading = reads;
         awaits = waits;
         small = below;
+        cans = few-cans before g;
+        lin = lin-before before g;
+        above = lin-above before g;
         sized = sizes-so;
         frames = λ t l. tx-before before t w l;
         sizes = sizes-are before g;

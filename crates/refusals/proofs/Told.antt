@@ -29,9 +29,9 @@ use Rattle.refusals.proofs.Passing.{whole}
 use Rattle.refusals.proofs.SoFar.{SoFar}
 use Rattle.refusals.proofs.Fails.{Fails}
 use Rattle.refusals.proofs.KindLines.{follower, follower-names, known, cut-short}
-use Rattle.refusals.proofs.PlaceLine.{place}
+use Rattle.refusals.proofs.PlaceLine.{place, can-place}
 use Rattle.refusals.proofs.CountLine.{room}
-use Rattle.refusals.proofs.RangeLine.{range}
+use Rattle.refusals.proofs.RangeLine.{range, lin-range}
 use Rattle.refusals.proofs.OrderLine.{order}
 use Rattle.refusals.proofs.DataLines.{data-fits, owner}
 use Rattle.refusals.proofs.FailureLines.{failure-fits, failure-owner}
@@ -106,8 +106,10 @@ told before s h r =
     told-need _ _ _ _ (known r) refl (λ w. n) λ k.
     told-need _ _ _ _ (cut-short r) refl (λ w. n) λ c.
     told-need _ _ _ _ (place before s h r (whole r k c)) refl (λ w. n) λ m.
+    told-need _ _ _ _ (can-place before s h r (whole r k c)) refl (λ w. n) λ e.
     told-need _ _ _ _ (room before s h r (whole r k c) m) refl (λ w. n) λ e.
     told-need _ _ _ _ (range before s h r (whole r k c)) refl (λ w. n) λ i.
+    told-need _ _ _ _ (lin-range before s h r (whole r k c) i) refl (λ w. n) λ e.
     told-need _ _ _ _ (order before s h r (whole r k c) i) refl (λ w. n) λ e.
     told-need _ _ _ _ (data-fits before s h r (whole r k c) m) refl (λ w. n) λ d.
     told-need _ _ _ _ (owner before s h r (whole r k c) m) refl (λ w. n) λ e.

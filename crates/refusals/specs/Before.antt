@@ -1,15 +1,16 @@
--- What stands before a record, as splits of the list of the records before it: the Rx frame and the signal that are being read, each Tx frame by its
--- number, and the bits that have an owner.
+-- What stands before a record, as splits of the list of the records before it: the Rx frame and the signal that are being read, each LIN node and
+-- each Tx frame by its number, and the bits that have an owner.
 use mathlib.Core.Path.{_≡_}
 use mathlib.Core.Logic.{_≢_, _⊎_}
 use mathlib.Core.List.{List, [], _∷_, _++_}
 use Prim.Native.Nat.{ℕ}
+use Rattle.records.specs.declared.record.NodeBody.{NodeBody}
 use Rattle.records.specs.declared.record.TxFrame.{TxFrame}
 use Rattle.records.specs.declared.record.RxFrame.{RxFrame}
 use Rattle.records.specs.declared.record.SignalBody.{SignalBody}
 use Rattle.records.specs.declared.record.Record.{Record}
-use Rattle.records.specs.declared.record.Record.the-variants.{Tx, Rx, Signal}
-use Rattle.records.specs.Kinds.{txStage}
+use Rattle.records.specs.declared.record.Record.the-variants.{Node, Tx, Rx, Signal}
+use Rattle.records.specs.Kinds.{nodeStage, txStage}
 use Rattle.plan.specs.Rows.{Claim, rowsFrom, allClaims}
 use Rattle.facts.specs.Good.{Each, Holds, countOf}
 use Rattle.claims.specs.Claims.{IsDestination}
@@ -48,6 +49,15 @@ pub record TxBefore (t : ℕ) (before : List Record) : Type 0 where
   pub since : List Record
   pub split : before ≡ front ++ Tx frame ∷ since
   pub number : countOf txStage front ≡ t
+
+-- so node n has n nodes before it; "Node type 1 is a LIN node" (document 02, Ticket 2)
+pub record LinBefore (n : ℕ) (before : List Record) : Type 0 where
+  pub front : List Record
+  pub body : NodeBody
+  pub since : List Record
+  pub split : before ≡ front ++ Node body ∷ since
+  pub number : countOf nodeStage front ≡ n
+  pub type : body .of ≡ 1
 
 -- of some element
 unfoldable pub Some {ℓ} : {A : Type ℓ} → (A → Type 0) → List A → Type 0

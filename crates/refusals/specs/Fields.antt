@@ -16,7 +16,7 @@ use Rattle.records.specs.declared.record.Record.the-variants.{Head, Node, Tx, R
 use Rattle.records.specs.Records.{eightBytes}
 use Rattle.records.specs.Kinds.{nodeStage, txStage, rxStage, signalStage, destinationStage}
 use Rattle.facts.specs.Good.{countOf}
-use Rattle.refusals.specs.Before.{_or_, _and_, RxBefore, SignalBefore}
+use Rattle.refusals.specs.Before.{_or_, _and_, RxBefore, SignalBefore, LinBefore}
 
 -- ---- 4: "At most 16 nodes, 256 Tx frames, 256 Rx frames, 1,024 signals (64 in a frame), 2,048 destinations (15 for a signal)."
 
@@ -29,8 +29,9 @@ pub data TooMany (before : List Record) : Record → Type 0 where
   destinations : (t : DestinationBody) → 2048 ≤ countOf destinationStage before → TooMany before (Destination t)
   for-a-signal : (t : DestinationBody) (signal : SignalBefore before) → 15 ≤ length (signal .destinations) → TooMany before (Destination t)
 
--- ---- 5: "Ranges: order 0–1; type 0; node below the node count; ID 0–2047; size 0–8; prescaler 1, 2, 10 or 20; flags 0–3; payload bytes past
--- the size zero; enable 0–1; failure position 0–63; long count 0–15; positions 0–63; signal size 1–64."
+-- ---- 5: "Ranges: order 0–1; .. node below the node count; ID 0–2047; size 0–8; prescaler 1, 2, 10 or 20; flags 0–3; payload bytes past
+-- the size zero; enable 0–1; failure position 0–63; long count 0–15; positions 0–63; signal size 1–64." "type: 0 CAN"; "Node type 1 is a LIN
+-- node" (document 02, Ticket 2).
 
 abbrev pub NoPrescaler : ℕ → Type 0
 NoPrescaler p = (p ≢ 1) and (p ≢ 2) and (p ≢ 10) and (p ≢ 20)
@@ -42,7 +43,7 @@ NotZeroPast size b = (i : ℕ) × (size ≤ i) × (byteAt (eightBytes b) i ≢ 0
 -- the nodes stand before all frames, so the node count is that of the nodes before
 pub data OutOfRange (before : List Record) : Record → Type 0 where
   head : (order : ℕ) → 1 < order → OutOfRange before (Head order)
-  node : (body : NodeBody) → body .of ≢ 0 → OutOfRange before (Node body)
+  node : (body : NodeBody) → 1 < body .of → OutOfRange before (Node body)
   tx-frame : (x : TxFrame)
       → (countOf nodeStage before ≤ x .node) or (2047 < x .id) or (8 < x .size) or NoPrescaler (x .prescaler) or (3 < x .flags)
       or NotZeroPast (x .size) (x .payload) → OutOfRange before (Tx x)
@@ -51,6 +52,12 @@ pub data OutOfRange (before : List Record) : Record → Type 0 where
       or (15 < x .long) → OutOfRange before (Rx x)
   signal : (g : SignalBody) → (63 < g .position) or (g .size < 1) or (64 < g .size) → OutOfRange before (Signal g)
   destination : (t : DestinationBody) → 63 < t .position → OutOfRange before (Destination t)
+
+-- ---- 5: "IDs there run 0 to 59, sizes 1 to 8" (document 02, Ticket 2): on a LIN node. A size above 8 is out of range on every node.
+
+pub data OutOfLinRange (before : List Record) : Record → Type 0 where
+  tx-frame : (x : TxFrame) → LinBefore (x .node) before → (59 < x .id) or (x .size < 1) → OutOfLinRange before (Tx x)
+  rx-frame : (x : RxFrame) → LinBefore (x .node) before → (59 < x .id) or (x .size < 1) → OutOfLinRange before (Rx x)
 
 -- ---- 6: "an Rx frame's (node, ID) is not above that of the one before"
 

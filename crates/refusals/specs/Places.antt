@@ -10,7 +10,7 @@ use Rattle.records.specs.declared.record.DestinationBody.{DestinationBody}
 use Rattle.records.specs.declared.record.Record.{Record}
 use Rattle.records.specs.declared.record.Record.the-variants.{Head, Node, Tx, Rx, Signal, Destination, Broken}
 use Rattle.records.specs.declared.record.Fault.the-variants.{Cut}
-use Rattle.refusals.specs.Before.{RxBefore}
+use Rattle.refusals.specs.Before.{RxBefore, LinBefore}
 
 -- the kind that a record's kind byte says, which one that is cut short has too; an unknown kind and the end have none
 pub data OfKind : ℕ → Record → Type 0 where
@@ -67,3 +67,8 @@ pub data MayStand : List Record → Record → Type 0 where
 
 abbrev pub Misplaced : List Record → Record → Type 0
 Misplaced before r = MayStand before r → ⊥
+
+-- ---- 3: "for a CAN node after a LIN node" (document 02, Ticket 2). "type: 0 CAN"
+
+pub data CanAfterLin (before : List Record) : Record → Type 0 where
+  can-node : (body : NodeBody) → body .of ≡ 0 → (n : ℕ) → LinBefore n before → CanAfterLin before (Node body)

@@ -8,8 +8,8 @@ use Rattle.records.specs.declared.record.Record.the-variants.{Broken}
 use Rattle.records.specs.declared.record.Fault.the-variants.{End}
 use Rattle.records.specs.Records.{records}
 use Rattle.refusals.specs.Before.{_or_, _and_}
-use Rattle.refusals.specs.Places.{MissingFollower, UnknownKind, RunsPast, Misplaced}
-use Rattle.refusals.specs.Fields.{TooMany, OutOfRange, NotAbove}
+use Rattle.refusals.specs.Places.{MissingFollower, UnknownKind, RunsPast, Misplaced, CanAfterLin}
+use Rattle.refusals.specs.Fields.{TooMany, OutOfRange, OutOfLinRange, NotAbove}
 use Rattle.refusals.specs.Owners.{PassesData, TwoOwners, FailurePasses, FailureTaken}
 
 -- a line: its number, when it applies, and which record it then names
@@ -32,14 +32,17 @@ abbrev pub followers : List Record → Record → Line
 followers before r = record { number = 9; when = MissingFollower before r; names = λ w. length (w .rx .front) }
 
 -- "then 2, 1, 3, 4, 5, 6, 7, 8. At a destination, 7 and 8 for itself, then 9 and 8 for the failure bit, all naming the destination."
+-- "Refusals: 3 for a CAN node after a LIN node; 5 for the new ranges" (document 02, Ticket 2): each stands by the line of its number.
 abbrev pub table : List Record → Record → List Line
 table before r =
     followers before r
     ∷ line (length before) 2 (UnknownKind r)
     ∷ line (length before) 1 (RunsPast r)
     ∷ line (length before) 3 (Misplaced before r)
+    ∷ line (length before) 3 (CanAfterLin before r)
     ∷ line (length before) 4 (TooMany before r)
     ∷ line (length before) 5 (OutOfRange before r)
+    ∷ line (length before) 5 (OutOfLinRange before r)
     ∷ line (length before) 6 (NotAbove before r)
     ∷ line (length before) 7 (PassesData before r)
     ∷ line (length before) 8 (TwoOwners before r)

@@ -7,8 +7,9 @@ use Rattle.facts.specs.Good.{GoodPlan}
 use Rattle.facts.proofs.FactsGood.{facts-good}
 use Rattle.area.specs.Queue.{endsOf, entries, queueOf}
 use Rattle.tables.specs.Reads.{Reads, Begun}
-use Rattle.sending.proofs.Queues.{Queues}
 use Rattle.sending.proofs.Plans.{Sendable, sendable}
+use Rattle.sending.proofs.Waiters.{wait-small}
+use Rattle.sending.proofs.Queues.{Queues}
 use Rattle.sending.proofs.Holding.{holding}
 use Rattle.sending.proofs.Lines.{line-empty, queue-of}
 use Rattle.sending.proofs.Moves.{Ready}
@@ -29,7 +30,7 @@ empty-queues plan a good reads begun =
       queue = λ n h.
           let e = begun .empty n h in
           queue-of (holding s reads) h (omega (arith, reads .rings n h .room)) (rw (empty a n (e .1)) line-empty);
-      stands = λ t h d. absurd (d (begun .waits t (omega (arith, s .tx))));
+      stands = λ n k can d. absurd (d (begun .waits k (wait-small s can)));
     }
 
 pub begins : (plan a : List ℕ) → GoodPlan plan → Reads plan a → Begun plan a → Ready plan a

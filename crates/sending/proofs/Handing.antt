@@ -3,34 +3,62 @@ use mathlib.Core.Path.{_≡_, refl, sym, ap, _∙_}
 use mathlib.Core.Logic.{_≢_}
 use mathlib.Core.Bool.{false}
 use mathlib.Core.List.{List, [], _∷_}
-use Prim.Native.Nat.{ℕ, suc, _-_, _≤_, _<_}
+use Prim.Native.Nat.{ℕ, suc, _+_, _-_, _<_}
 use native.Mathlib.Omega.{arith}
 use borrow.Author.Tests.{eq-eqb, ne-eqb, lt-ltb}
 use lib.Dec.{eqb}
-use lib.ListN.{length, take}
+use lib.ListN.{length}
+use Rattle.base.specs.Pick.{pick}
 use Rattle.base.specs.Numbers.{byteAt}
 use Rattle.base.proofs.Picks.{picks, passes, by-eqb}
 use Rattle.base.proofs.Ranges.{at-most-le}
+use Rattle.lin.specs.Identifier.{protectedOf}
+use Rattle.lin.specs.Checksum.{checksumOf}
 use Rattle.records.specs.Records.{records}
-use Rattle.plan.specs.Rows.{txOf, nodesIn}
-use Rattle.area.specs.Layout.{nodeCountByte, nodeCount, inWidth}
-use Rattle.area.specs.Queue.{endsOf, oldest, dequeued, queueOf}
+use Rattle.records.specs.Nodes.{isLin}
+use Rattle.plan.specs.Rows.{rowsOf, txOf, nodesIn}
+use Rattle.area.specs.Layout.{nodeCountByte, requestsStart, nodeCount, inWidth}
+use Rattle.area.specs.Queue.{endsOf, entryOf, oldest, dequeued, queueOf}
 use Rattle.area.proofs.QueueLaws.{length-queueOf, queue-dequeued-other}
+use Rattle.answers.specs.declared.Framing.{Framing}
+use Rattle.answers.specs.declared.Framing.the-variants.{Can, Lin}
+use Rattle.answers.specs.declared.Taken.{Taken}
 use Rattle.answers.specs.declared.Taken.the-variants as taken
-use Rattle.taking.specs.Taken.{oldestAnswer, oldestArea, takenAnswer, takenArea}
-use Rattle.tables.specs.Reads.{plannedTx, Reads}
+use Rattle.taking.specs.Taken.{keptPart, framingOf, entryAnswer, oldestAnswer, oldestArea, takenAnswer, takenArea}
+use Rattle.tables.specs.Reads.{plannedTx, rowAt, typeAt, Reads}
+use Rattle.sending.proofs.Waiters.{CanWait}
+use Rattle.sending.proofs.Entries.{entry-frame, entry-request}
 use Rattle.sending.proofs.Moves.{Ready}
-use Rattle.sending.proofs.Takes.{leaves, frame}
+use Rattle.sending.proofs.Takes.{leaves, oldest-can}
 
--- "none, or the oldest waiting frame, which then waits no more: its Tx number, ID, size, how many still wait on that node"
+-- what goes with a frame of this ID and payload, by the type of node n
+abbrev pub framingIn : List ℕ → ℕ → ℕ → List ℕ → Framing
+framingIn plan n id payload = pick (isLin (typeAt plan n)) (Lin (protectedOf id) (checksumOf (protectedOf id) payload)) Can
+
+-- a frame of node n with this payload, and a request, as they leave: what the plan says of them, and how many still wait
+abbrev pub frameTaken : List ℕ → ℕ → ℕ → List ℕ → ℕ → Taken
+frameTaken plan n t payload waiting =
+    let x = plannedTx plan t in
+    taken.Frame (record { tx = record { 0 = t }; id = x .id; size = x .size; waiting = waiting; framing = framingIn plan n (x .id) payload })
+
+abbrev pub requestTaken : List ℕ → ℕ → ℕ → Taken
+requestTaken plan r waiting =
+    let x = rowAt plan r .frame in
+    taken.Request (record { rx = record { 0 = r }; id = x .id; size = x .size; waiting = waiting; protected = protectedOf (x .id) })
+
+-- "none, or the oldest waiting frame, which then waits no more: its Tx number, ID, size, how many still wait on that node"; "A take answers a request
+-- (Rx number, ID, size, waiting count ..) or a frame" (document 02, Ticket 2)
 pub record Takes (plan a : List ℕ) (n : ℕ) : Type 0 where
   pub none : queueOf a n ≡ [] → (takenAnswer a n ≡ taken.Nothing) × (takenArea a n ≡ a)
-  pub oldest : (t : ℕ) (rest : List ℕ) → queueOf a n ≡ t ∷ rest
-      → takenAnswer a n ≡ taken.Frame (record { 0 = t }) (plannedTx plan t .id) (plannedTx plan t .size) (length rest)
-  pub leaves : (t : ℕ) (rest : List ℕ) → queueOf a n ≡ t ∷ rest → queueOf (takenArea a n) n ≡ rest
+  pub can : (k : ℕ) (rest : List ℕ) → queueOf a n ≡ k ∷ rest → CanWait plan n k
+  pub frame : (t : ℕ) (rest : List ℕ) → queueOf a n ≡ t ∷ rest → t < length (txOf plan)
+      → takenAnswer a n ≡ frameTaken plan n t (keptPart a t (plannedTx plan t .size)) (length rest)
+  pub request : (r : ℕ) (rest : List ℕ) → queueOf a n ≡ (requestsStart + r) ∷ rest → r < length (rowsOf plan)
+      → takenAnswer a n ≡ requestTaken plan r (length rest)
+  pub leaves : (k : ℕ) (rest : List ℕ) → queueOf a n ≡ k ∷ rest → queueOf (takenArea a n) n ≡ rest
   pub others : (m : ℕ) → m < 16 → m ≢ n → queueOf (takenArea a n) m ≡ queueOf a m
 
-module _ {plan a : List ℕ} (reads : Reads plan a) (r : Ready plan a) (n : ℕ) (h : n < nodesIn (records plan)) where
+module _ {plan a : List ℕ} (reads : Reads plan a) (ready : Ready plan a) (n : ℕ) (h : n < nodesIn (records plan)) where
   known : n < nodeCount a
   known = omega (arith, reads .header .nodes)
 
@@ -60,9 +88,9 @@ module _ {plan a : List ℕ} (reads : Reads plan a) (r : Ready plan a) (n : ℕ)
       rw leaves-area
       (by-eqb (λ x. queueOf x m ≡ queueOf a m) (endsOf a n .waiting) 0 a (dequeued a n) (λ z. refl) (λ z. queue-dequeued-other a n below m l d))
 
-  -- ---- t is the oldest
+  -- ---- number k is the oldest
 
-  module _ (t : ℕ) (rest : List ℕ) (e : queueOf a n ≡ t ∷ rest) where
+  module _ (k : ℕ) (rest : List ℕ) (e : queueOf a n ≡ k ∷ rest) where
     count : endsOf a n .waiting ≡ suc (length rest)
     count = sym (length-queueOf a n) ∙ ap length e
 
@@ -72,39 +100,51 @@ module _ {plan a : List ℕ} (reads : Reads plan a) (r : Ready plan a) (n : ℕ)
     busy : eqb (endsOf a n .waiting) 0 ≡ false
     busy = ne-eqb (endsOf a n .waiting) 0 (λ z. omega (arith, some))
 
-    first : oldest a n ≡ t
-    first = let l = leaves r n below some in cc
+    first : oldest a n ≡ k
+    first = let l = leaves ready n below some in cc
 
-    exists : t < length (txOf plan)
-    exists = rw first at (frame r n below some)
+    can : CanWait plan n k
+    can = rw first at (oldest-can ready n below some)
 
-    few : t < 256
-    few = omega (arith, exists, r .holding .fit .tx)
-
-    small : plannedTx plan t .size ≤ 8
-    small = r .holding .fit .size t exists
-
-    whole : inWidth (plannedTx plan t .size) ≡ plannedTx plan t .size
-    whole = omega (arith, small)
-
-    answered : takenAnswer a n ≡ taken.Frame (record { 0 = t }) (plannedTx plan t .id) (plannedTx plan t .size) (length rest)
+    answered : takenAnswer a n ≡ entryAnswer a n (entryOf k) (length rest)
     unfolding oldestAnswer
     answered =
         let c : endsOf a n .waiting - 1 ≡ length rest = omega (arith, count) in
-        answers ∙ passes _ _ _ busy ∙ rw (first, r .holding .frame t exists, whole, c)
+        answers ∙ passes _ _ _ busy ∙ rw (first, c)
 
     area : takenArea a n ≡ dequeued a n
     unfolding oldestArea
     area = leaves-area ∙ passes _ _ _ busy
 
     left : queueOf (takenArea a n) n ≡ rest
-    left = rw area (let l = leaves r n below some in cc)
+    left = rw area (let l = leaves ready n below some in cc)
+
+  framing : (id : ℕ) (payload : List ℕ) → framingOf a n id payload ≡ framingIn plan n id payload
+  unfolding framingOf
+  framing id payload = rw (reads .header .types n h)
+
+  frame-leaves :
+      (t : ℕ) (rest : List ℕ) → queueOf a n ≡ t ∷ rest → t < length (txOf plan)
+      → takenAnswer a n ≡ frameTaken plan n t (keptPart a t (plannedTx plan t .size)) (length rest)
+  unfolding entryAnswer
+  frame-leaves t rest e exists =
+      let x = plannedTx plan t in
+      let whole : inWidth (x .size) ≡ x .size = omega (arith, ready .holding .fit .size t exists) in
+      let is = entry-frame t (omega (arith, ready .holding .fit .tx)) in
+      answered t rest e ∙ rw (is, ready .holding .frame t exists, whole, framing (x .id) (keptPart a t (x .size)))
+
+  request-leaves :
+      (r : ℕ) (rest : List ℕ) → queueOf a n ≡ (requestsStart + r) ∷ rest → r < length (rowsOf plan) → takenAnswer a n ≡ requestTaken plan r (length rest)
+  unfolding entryAnswer
+  request-leaves r rest e exists = answered (requestsStart + r) rest e ∙ rw (entry-request r, ready .holding .row r exists)
 
   pub takes : Takes plan a n
   takes =
       record {
         none = nothing;
-        oldest = answered;
+        can = can;
+        frame = frame-leaves;
+        request = request-leaves;
         leaves = left;
         others = others;
       }

@@ -6,15 +6,16 @@ use native.Mathlib.Omega.{arith}
 use lib.ListN.{length}
 use Rattle.plan.specs.Rows.{rowsOf, txOf}
 use Rattle.facts.specs.Good.{Each}
-use Rattle.area.specs.Layout.{LongEnough, txFrame, claims}
-use Rattle.area.proofs.Kept.{Kept, txFrame-kept, claims-kept, start-kept, room-kept}
-use Rattle.tables.specs.Reads.{plannedTx, Reads, Rings}
+use Rattle.area.specs.Layout.{LongEnough, txFrame, rxFrame, claims}
+use Rattle.area.proofs.Kept.{Kept, txFrame-kept, rxFrame-kept, claims-kept, start-kept, room-kept}
+use Rattle.tables.specs.Reads.{plannedTx, rowAt, Reads, Rings}
 use Rattle.sending.proofs.Plans.{Lies, Sendable}
 
 pub record Holding (plan a : List ℕ) : Type 0 where
   pub fit : Sendable plan
   pub size : LongEnough a
   pub frame : (t : ℕ) → t < length (txOf plan) → txFrame a t ≡ plannedTx plan t
+  pub row : (r : ℕ) → r < length (rowsOf plan) → rxFrame a r ≡ rowAt plan r .frame
   pub lies : (r : ℕ) → r < length (rowsOf plan) → Each (Lies plan) (claims a r)
   pub rings : (n : ℕ) → n < 16 → Rings plan a n
 
@@ -25,6 +26,7 @@ module _ {plan a : List ℕ} where
         fit = fit;
         size = reads .header .size;
         frame = λ t h. reads .tx t h .frame;
+        row = λ r h. reads .rx r h .frame;
         lies = λ r h. rw (reads .rx r h .claims) (fit .claims r h);
         rings = reads .rings;
       }
@@ -43,6 +45,7 @@ module _ {plan a : List ℕ} where
         fit = h .fit;
         size = omega (arith, k .len);
         frame = λ t l. txFrame-kept k t (omega (arith, h .fit .tx)) ∙ h .frame t l;
+        row = λ r l. rxFrame-kept k r (omega (arith, h .fit .rx)) ∙ h .row r l;
         lies = λ r l. rw (claims-kept k r (omega (arith, h .fit .rx))) (h .lies r l);
         rings = rings-kept k (h .rings);
       }

@@ -1,10 +1,15 @@
+pub mod Plans
+pub mod Waiters
 pub mod Queues
 pub mod Counting
-pub mod Plans
+pub mod Room
 pub mod Holding
 pub mod Lines
 pub mod Moves
+pub mod Joining
 pub mod Scheduling
+pub mod Requesting
+pub mod Entries
 pub mod Takes
 pub mod Handing
 pub mod Begin

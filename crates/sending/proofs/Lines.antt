@@ -1,4 +1,4 @@
--- A list of frames that wait on a node: who may stand in it, and what a frame that joins or leaves makes of it.
+-- A list of those that wait on a node: who may stand in it, and what one that joins or leaves makes of it.
 use mathlib.Core.Path.{_≡_, sym}
 use mathlib.Core.Logic.{_≢_, _⊎_, inl, inr, ⊎-elim}
 use mathlib.Core.List.{List, [], _∷_, _++_}
@@ -8,19 +8,19 @@ use native.Mathlib.Omega.{arith}
 use lib.ListN.{length, getD, length-append, List·getD-append}
 use lib.Seq.{getD-at}
 use Rattle.base.specs.Numbers.{byteAt}
-use Rattle.plan.specs.Rows.{txOf}
-use Rattle.area.specs.Layout.{waits}
+use Rattle.area.specs.Layout.{mostRoom, waits}
 use Rattle.area.specs.Queue.{endsOf, queueOf}
 use Rattle.area.proofs.Kept.{Kept, room-kept}
 use Rattle.area.proofs.QueueLaws.{length-queueOf}
-use Rattle.tables.specs.Reads.{plannedTx, framesOn}
+use Rattle.tables.specs.Reads.{waitersOn}
+use Rattle.sending.proofs.Plans.{Sendable}
+use Rattle.sending.proofs.Waiters.{CanWait}
 use Rattle.sending.proofs.Queues.{waiter, Queue}
-use Rattle.sending.proofs.Counting.{no-more}
+use Rattle.sending.proofs.Room.{room-for-all}
 use Rattle.sending.proofs.Holding.{Holding}
 
 pub record Line (plan a : List ℕ) (n : ℕ) (q : List ℕ) : Type 0 where
-  pub frame : (i : ℕ) → i < length q → getD q i 0 < length (txOf plan)
-  pub node : (i : ℕ) → i < length q → plannedTx plan (getD q i 0) .node ≡ n
+  pub can : (i : ℕ) → i < length q → CanWait plan n (getD q i 0)
   pub marked : (i : ℕ) → i < length q → byteAt a (waits (getD q i 0)) ≢ 0
   pub once : (i j : ℕ) → i < j → j < length q → getD q i 0 ≢ getD q j 0
 
@@ -44,7 +44,7 @@ each-joined :
     → P (getD (q ++ (t ∷ [])) i 0)
 each-joined P q t each last i h = ⊎-elim (λ x. rw (x .1) (each i (x .0))) (λ x. rw (x .1) last) (at-end q t i h)
 
-room-small : (a : List ℕ) (n : ℕ) → endsOf a n .room ≤ 512
+room-small : (a : List ℕ) (n : ℕ) → endsOf a n .room ≤ mostRoom
 unfolding endsOf
 room-small a n = omega arith
 
@@ -52,19 +52,17 @@ module _ {plan a : List ℕ} {n : ℕ} where
   pub line-empty : Line plan a n []
   line-empty =
       record {
-        frame = λ i h. absurd (omega arith);
-        node = λ i h. absurd (omega arith);
+        can = λ i h. absurd (omega arith);
         marked = λ i h. absurd (omega arith);
         once = λ i j h l. absurd (omega arith);
       }
 
   pub line-joined :
-      {q : List ℕ} (t : ℕ) → t < length (txOf plan) → plannedTx plan t .node ≡ n → byteAt a (waits t) ≢ 0 → ((i : ℕ) → i < length q → getD q i 0 ≢ t)
-      → Line plan a n q → Line plan a n (q ++ (t ∷ []))
-  line-joined {q} t frame node marked new line =
+      {q : List ℕ} (t : ℕ) → CanWait plan n t → byteAt a (waits t) ≢ 0 → ((i : ℕ) → i < length q → getD q i 0 ≢ t) → Line plan a n q
+      → Line plan a n (q ++ (t ∷ []))
+  line-joined {q} t can marked new line =
       record {
-        frame = each-joined (λ x. x < length (txOf plan)) q t (line .frame) frame;
-        node = each-joined (λ x. plannedTx plan x .node ≡ n) q t (line .node) node;
+        can = each-joined (CanWait plan n) q t (line .can) can;
         marked = each-joined (λ x. byteAt a (waits x) ≢ 0) q t (line .marked) marked;
         once = λ i j h l.
             let old : getD q i 0 ≢ getD (q ++ (t ∷ [])) j 0 =
@@ -77,8 +75,7 @@ module _ {plan a : List ℕ} {n : ℕ} where
   pub line-left : {q : List ℕ} (t : ℕ) → Line plan a n (t ∷ q) → Line plan a n q
   line-left t line =
       record {
-        frame = λ i h. line .frame (suc i) (omega arith);
-        node = λ i h. line .node (suc i) (omega arith);
+        can = λ i h. line .can (suc i) (omega arith);
         marked = λ i h. line .marked (suc i) (omega arith);
         once = λ i j h l. line .once (suc i) (suc j) (omega arith) (omega arith);
       }
@@ -87,14 +84,13 @@ module _ {plan a : List ℕ} {n : ℕ} where
 
   pub line-marked :
       {b q : List ℕ} → Line plan a n q → ((i : ℕ) → i < length q → byteAt b (waits (getD q i 0)) ≢ 0) → Line plan b n q
-  line-marked line marked = record { frame = line .frame; node = line .node; marked = marked; once = line .once }
+  line-marked line marked = record { can = line .can; marked = marked; once = line .once }
 
-  -- ---- so a node's queue is one of no more than its frames
+  -- ---- so a node's queue is one of no more than can wait on it
 
-  line-few : {q : List ℕ} → Line plan a n q → length q ≤ framesOn n (txOf plan)
-  line-few {q} line =
-      no-more n (txOf plan) (λ i. getD q i 0) (length q)
-      (record { frame = line .frame; node = line .node; once = λ i j h l e. go i j h l e (decLt i j) (decLt j i) })
+  line-few : Sendable plan → {q : List ℕ} → Line plan a n q → length q ≤ waitersOn plan n
+  line-few fit {q} line =
+      room-for-all plan n fit (λ i. getD q i 0) (length q) (line .can) (λ i j h l e. go i j h l e (decLt i j) (decLt j i))
     where
       go : (i j : ℕ) → i < length q → j < length q → getD q i 0 ≡ getD q j 0 → Dec (i < j) → Dec (j < i) → i ≡ j
       go i j h l e (yes x) y = absurd (line .once i j x l e)
@@ -102,11 +98,11 @@ module _ {plan a : List ℕ} {n : ℕ} where
       go i j h l e (no x) (no y) = omega arith
 
   pub line-of : Queue plan a n → Line plan a n (queueOf a n)
-  line-of x = record { frame = x .frame; node = x .node; marked = x .marked; once = x .once }
+  line-of x = record { can = x .can; marked = x .marked; once = x .once }
 
   pub queue-of : Holding plan a → n < 16 → endsOf a n .first < endsOf a n .room → Line plan a n (queueOf a n) → Queue plan a n
   queue-of holding h first line =
-      let few = line-few line in
+      let few = line-few (holding .fit) line in
       let ring = holding .rings n h in
       record {
         sound = record {
@@ -115,14 +111,13 @@ module _ {plan a : List ℕ} {n : ℕ} where
           first = first;
           room = room-small a n;
         };
-        frame = line .frame;
-        node = line .node;
+        can = line .can;
         marked = line .marked;
         once = line .once;
         few = few;
       }
 
--- a queue that a change leaves, with the marks of its frames
+-- a queue that a change leaves, with the marks of those in it
 pub queue-stays :
     {plan a b : List ℕ} {n : ℕ} → Kept a b → Holding plan b → n < 16 → endsOf b n .first ≡ endsOf a n .first → queueOf b n ≡ queueOf a n
     → ((i : ℕ) → i < length (queueOf a n) → byteAt b (waits (waiter a n i)) ≢ 0) → Queue plan a n → Queue plan b n

@@ -6,13 +6,13 @@ use Prim.Native.Nat.{ℕ, _+_, _≤_, _<_}
 use native.Mathlib.Omega.{arith}
 use lib.ListN.{length-append, List·getD-append}
 use Rattle.base.specs.Numbers.{byteAt}
-use Rattle.area.specs.Layout.{counterByte, queuesStart, txReloadsStart, waitsStart, payloadsStart, planStart, queue, waits}
+use Rattle.area.specs.Layout.{counterByte, queuesStart, txReloadsStart, waitsStart, payloadsStart, planStart, waiterRange, queue, waits}
 use Rattle.area.specs.Queue.{endsOf, queueOf}
 use Rattle.area.proofs.Frame.{Same, same-two, same-fewer}
 use Rattle.area.proofs.Kept.{Kept, kept-refl, kept-then}
 use Rattle.area.proofs.QueueLaws.{queue-same}
-use Rattle.sending.proofs.Queues.{waiter, Queues, Stands}
-use Rattle.sending.proofs.Queues.{Grows}
+use Rattle.sending.proofs.Waiters.{wait-small, wait-node}
+use Rattle.sending.proofs.Queues.{waiter, Queues, Stands, Grows}
 use Rattle.sending.proofs.Holding.{Holding, holding-kept}
 use Rattle.sending.proofs.Lines.{queue-stays}
 
@@ -37,7 +37,7 @@ module _ {a : List ℕ} {n : ℕ} where
   grows-then g h = record { new = g .new ++ h .new; then = rw (h .then, g .then, append-assoc) }
 
   -- who stands in a queue stays there
-  pub grows-stands : {b : List ℕ} {t : ℕ} → Grows a b n → Stands a n t → Stands b n t
+  pub grows-stands : {b : List ℕ} {k : ℕ} → Grows a b n → Stands a n k → Stands b n k
   grows-stands g s =
       record {
         place = s .place;
@@ -78,8 +78,8 @@ unfolding endsOf
 first-same records s n h = same-two s (queue n + 4) (records _ (omega arith) (omega arith)) (records _ (omega arith) (omega arith))
 
 module _ {a b : List ℕ} (s : Rests a b) where
-  mark-rests : (t : ℕ) → t < 256 → byteAt b (waits t) ≡ byteAt a (waits t)
-  mark-rests t h = s .at (waits t) (omega arith)
+  mark-rests : (k : ℕ) → k < waiterRange → byteAt b (waits k) ≡ byteAt a (waits k)
+  mark-rests k h = s .at (waits k) (omega arith)
 
   kept-rests : Kept a b
   kept-rests = same-fewer (λ j p. record { timers = λ x y. p .low x (omega arith); payloads = λ x y. p .high (omega arith) y; count = p .count }) s
@@ -97,9 +97,9 @@ module _ {a b : List ℕ} (s : Rests a b) where
           queue = λ n h.
               let x = queues .queue n h in
               queue-stays kept-rests later h (first-same (λ j l m. omega arith) s n h) (same n h)
-              (λ i l. rw (mark-rests (waiter a n i) (omega (arith, x .frame i l, holding .fit .tx))) (x .marked i l)) x;
-          stands = λ t h d.
-              grows-stands (grows _ (holding .fit .node t h)) (queues .stands t h (rw (mark-rests t (omega (arith, holding .fit .tx))) at d));
+              (λ i l. rw (mark-rests (waiter a n i) (wait-small (holding .fit) (x .can i l))) (x .marked i l)) x;
+          stands = λ n k can d.
+              grows-stands (grows n (wait-node (holding .fit) can)) (queues .stands n k can (rw (mark-rests k (wait-small (holding .fit) can)) at d));
         };
         grows = grows;
       }

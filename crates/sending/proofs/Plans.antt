@@ -1,11 +1,10 @@
--- What a good plan says of its Tx frames and of its claims, by number.
+-- What a good plan says of its Tx frames, its rows and its claims, by number.
 use mathlib.Core.Path.{_≡_}
 use mathlib.Core.List.{List, [], _∷_}
 use Prim.Native.Nat.{ℕ, _+_, _≤_, _<_}
 use native.Mathlib.Omega.{arith}
 use lib.ListN.{length}
 use Rattle.records.specs.Views.{noTx}
-use Rattle.records.specs.declared.record.Record.the-variants.{Tx}
 use Rattle.plan.specs.declared.verdict.Verdict.the-variants.{Good}
 use Rattle.plan.specs.Check.{checkPlan}
 use Rattle.plan.specs.Rows.{widthOf, Claim, rowsOf, claimsOf, txOf, noRow}
@@ -15,6 +14,7 @@ use Rattle.facts.proofs.Sizes.{sizes-length}
 use Rattle.facts.proofs.GoodFacts.{good-facts}
 use Rattle.facts.proofs.ByNumber.{frame-ranges, row-each, claims-small}
 use Rattle.tables.specs.Reads.{plannedTx, rowAt}
+use Rattle.tables.proofs.RowFacts.{row-node}
 
 -- a claim lies in the 64 bits of a Tx frame of the plan
 pub record Lies (plan : List ℕ) (c : Claim) : Type 0 where
@@ -26,6 +26,7 @@ pub record Sendable (plan : List ℕ) : Type 0 where
   pub rx : length (rowsOf plan) ≤ 256
   pub node : (t : ℕ) → t < length (txOf plan) → plannedTx plan t .node < 16
   pub size : (t : ℕ) → t < length (txOf plan) → plannedTx plan t .size ≤ 8
+  pub row : (r : ℕ) → r < length (rowsOf plan) → rowAt plan r .frame .node < 16
   pub claims : (r : ℕ) → r < length (rowsOf plan) → Each (Lies plan) (rowAt plan r .claims)
 
 -- ---- the claims
@@ -48,5 +49,6 @@ sendable plan n t r e =
       rx = f .counts .rx;
       node = λ t h. omega (arith, frame-ranges plan f noTx t h .node, f .counts .nodes);
       size = λ t h. frame-ranges plan f noTx t h .size;
+      row = row-node plan f;
       claims = λ r h. row-each (Lies plan) (rowsOf plan) noRow r h (each-both (lies plan) (claimsOf plan) (f .fits) b);
     }

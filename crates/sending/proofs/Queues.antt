@@ -5,36 +5,36 @@ use mathlib.Core.List.{List, _++_}
 use Prim.Native.Nat.{ℕ, _<_, _≤_}
 use lib.ListN.{length, getD}
 use Rattle.base.specs.Numbers.{byteAt}
-use Rattle.plan.specs.Rows.{txOf}
 use Rattle.area.specs.Layout.{waits}
 use Rattle.area.specs.Queue.{endsOf, queueOf, Sound}
-use Rattle.tables.specs.Reads.{plannedTx, framesOn}
+use Rattle.tables.specs.Reads.{waitersOn}
+use Rattle.sending.proofs.Waiters.{CanWait}
 
--- the i-th oldest of the frames that wait on node n
+-- the number of the i-th oldest of the frames and requests that wait on node n
 abbrev pub waiter : List ℕ → ℕ → ℕ → ℕ
 waiter a n i = getD (queueOf a n) i 0
 
 pub record Queue (plan a : List ℕ) (n : ℕ) : Type 0 where
   -- its ring is its own, and its ends lie in it
   pub sound : Sound (endsOf a n)
-  -- those that wait are Tx frames of node n, and are marked as waiting
-  pub frame : (i : ℕ) → i < length (queueOf a n) → waiter a n i < length (txOf plan)
-  pub node : (i : ℕ) → i < length (queueOf a n) → plannedTx plan (waiter a n i) .node ≡ n
+  -- those that wait are frames and requests that can wait on node n, and are marked as waiting
+  pub can : (i : ℕ) → i < length (queueOf a n) → CanWait plan n (waiter a n i)
   pub marked : (i : ℕ) → i < length (queueOf a n) → byteAt a (waits (waiter a n i)) ≢ 0
-  -- no frame stands in it twice
+  -- none stands in it twice: a frame and a request wait at most once
   pub once : (i j : ℕ) → i < j → j < length (queueOf a n) → waiter a n i ≢ waiter a n j
   -- so there is always room for one more
-  pub few : length (queueOf a n) ≤ framesOn n (txOf plan)
+  pub few : length (queueOf a n) ≤ waitersOn plan n
 
--- a frame of node n that is marked as waiting stands in its queue
-pub record Stands (a : List ℕ) (n t : ℕ) : Type 0 where
+-- number k stands in node n's queue
+pub record Stands (a : List ℕ) (n k : ℕ) : Type 0 where
   pub place : ℕ
   pub within : place < length (queueOf a n)
-  pub there : waiter a n place ≡ t
+  pub there : waiter a n place ≡ k
 
 pub record Queues (plan a : List ℕ) : Type 0 where
   pub queue : (n : ℕ) → n < 16 → Queue plan a n
-  pub stands : (t : ℕ) → t < length (txOf plan) → byteAt a (waits t) ≢ 0 → Stands a (plannedTx plan t .node) t
+  -- whoever can wait on a node and is marked as waiting stands in its queue
+  pub stands : (n k : ℕ) → CanWait plan n k → byteAt a (waits k) ≢ 0 → Stands a n k
 
 -- what a change that only adds to a queue, at its end, makes of it
 pub record Grows (a b : List ℕ) (n : ℕ) : Type 0 where

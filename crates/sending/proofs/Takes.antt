@@ -1,4 +1,4 @@
--- A take: the oldest frame of a node leaves its queue and its mark is cleared; the other queues stay.
+-- A take: the oldest frame or request of a node leaves its queue and its mark is cleared; the other queues stay.
 use mathlib.Core.Path.{_≡_, refl, sym, ap, _∙_}
 use mathlib.Core.Logic.{_≢_}
 use mathlib.Core.List.{List, _∷_}
@@ -13,14 +13,13 @@ use lib.Seq.{getD-set-same}
 use Rattle.base.specs.Numbers.{byteAt}
 use Rattle.base.proofs.Picks.{both, cases, by-eqb}
 use Rattle.base.proofs.Ranges.{at-most-le}
-use Rattle.plan.specs.Rows.{txOf}
 use Rattle.area.specs.Layout.{nodeCountByte, waits, nodeCount}
 use Rattle.area.specs.Queue.{endsOf, removed, setEnds, oldest, dequeued, queueOf}
 use Rattle.area.proofs.Frame.{same-refl, same-setEnds, same-dequeued}
 use Rattle.area.proofs.Kept.{Kept, kept-dequeued}
 use Rattle.area.proofs.QueueLaws.{ends-dequeued-other, queue-dequeued-other, queue-dequeued, sound-dequeued}
 use Rattle.taking.specs.Taken.{oldestArea, takenArea}
-use Rattle.tables.specs.Reads.{plannedTx}
+use Rattle.sending.proofs.Waiters.{CanWait, wait-small, wait-node, one-node}
 use Rattle.sending.proofs.Queues.{waiter, Queue, Queues, Stands}
 use Rattle.sending.proofs.Holding.{Holding, holding-kept}
 use Rattle.sending.proofs.Lines.{Line, line-of, line-marked, line-left, queue-of, queue-stays}
@@ -29,7 +28,7 @@ use Rattle.sending.proofs.Moves.{Ready, grows-same, grows-stands}
 module _ {plan a : List ℕ} (r : Ready plan a) (n : ℕ) (h : n < 16) (some : 0 < endsOf a n .waiting) where
   open Ready r using (holding, queues)
 
-  -- the oldest, and the area without it
+  -- the number of the oldest, and the area without it
   abbrev t : ℕ
   t = oldest a n
 
@@ -42,8 +41,8 @@ module _ {plan a : List ℕ} (r : Ready plan a) (n : ℕ) (h : n < 16) (some : 0
   line : Line plan a n (t ∷ queueOf b n)
   line = rw leaves at (line-of (queues .queue n h))
 
-  pub frame : t < length (txOf plan)
-  frame = line .frame 0 (omega arith)
+  pub oldest-can : CanWait plan n (oldest a n)
+  oldest-can = line .can 0 (omega arith)
 
   -- ---- the marks
 
@@ -51,7 +50,7 @@ module _ {plan a : List ℕ} (r : Ready plan a) (n : ℕ) (h : n < 16) (some : 0
   unfolding dequeued
   cleared =
       let s = same-setEnds {P = λ j. ⊥} n (removed (endsOf a n)) (λ j x y p. p) (same-refl a) .len in
-      getD-set-same (setEnds a n (removed (endsOf a n))) (waits t) 0 0 (omega (arith, frame, holding .fit .tx, holding .size))
+      getD-set-same (setEnds a n (removed (endsOf a n))) (waits t) 0 0 (omega (arith, wait-small (holding .fit) oldest-can, holding .size))
 
   mark-other : (u : ℕ) → u ≢ t → byteAt b (waits u) ≡ byteAt a (waits u)
   mark-other u d =
@@ -65,11 +64,11 @@ module _ {plan a : List ℕ} (r : Ready plan a) (n : ℕ) (h : n < 16) (some : 0
   later : Holding plan b
   later = holding-kept kept holding
 
-  -- a frame of another node is another frame
+  -- what waits on another node is another
   marks : (m : ℕ) (l : m < 16) → m ≢ n → (i : ℕ) → i < length (queueOf a m) → byteAt b (waits (waiter a m i)) ≢ 0
   marks m l d i k =
       let x = queues .queue m l in
-      rw (mark-other (waiter a m i) (λ e. d (sym (x .node i k) ∙ ap (λ u. plannedTx plan u .node) e ∙ line .node 0 (omega arith)))) (x .marked i k)
+      rw (mark-other (waiter a m i) (λ e. d (one-node (holding .fit) (rw e at (x .can i k)) oldest-can))) (x .marked i k)
 
   queue : (m : ℕ) → m < 16 → Queue plan b m
   queue m l = go (ℕ-discrete m n)
@@ -90,18 +89,20 @@ module _ {plan a : List ℕ} (r : Ready plan a) (n : ℕ) (h : n < 16) (some : 0
   behind u zero d l e = absurd (d (sym e))
   behind u (suc i) d l e = record { place = i; within = omega arith; there = e }
 
-  stands : (u : ℕ) → u < length (txOf plan) → byteAt b (waits u) ≢ 0 → Stands b (plannedTx plan u .node) u
-  stands u l m = go (ℕ-discrete (plannedTx plan u .node) n)
+  stands : (m u : ℕ) → CanWait plan m u → byteAt b (waits u) ≢ 0 → Stands b m u
+  stands m u can mark = go (ℕ-discrete m n)
     where
       d : u ≢ t
-      d e = m (ap (λ x. byteAt b (waits x)) e ∙ cleared)
+      d e = mark (ap (λ x. byteAt b (waits x)) e ∙ cleared)
 
-      s : Stands a (plannedTx plan u .node) u
-      s = queues .stands u l (rw (mark-other u d) at m)
+      s : Stands a m u
+      s = queues .stands m u can (rw (mark-other u d) at mark)
 
-      go : Dec (plannedTx plan u .node ≡ n) → Stands b (plannedTx plan u .node) u
-      go (yes e) = rw e (behind u (s .place) d (rw (e, leaves) at (s .within)) (rw (e, leaves) at (s .there)))
-      go (no e) = grows-stands (grows-same (queue-dequeued-other a n h (plannedTx plan u .node) (holding .fit .node u l) e)) s
+      go : Dec (m ≡ n) → Stands b m u
+      go (yes e) =
+          let here : Stands a n u = rw e at s in
+          rw e (behind u (here .place) d (rw leaves at (here .within)) (rw leaves at (here .there)))
+      go (no e) = grows-stands (grows-same (queue-dequeued-other a n h m (wait-node (holding .fit) can) e)) s
 
   queues-dequeued : Queues plan (dequeued a n)
   queues-dequeued = record { queue = queue; stands = stands }

@@ -4,7 +4,7 @@ use mathlib.Core.List.{List, [], _∷_}
 use Prim.Native.Nat.{ℕ, _<_, _≤_}
 use native.Mathlib.Omega.{arith}
 use lib.ListN.{length}
-use lib.Seq.{getD-set-same, getD-set-other}
+use lib.Seq.{getD-set-same}
 use Rattle.records.specs.declared.record.Record.{Record}
 use Rattle.records.specs.declared.record.Record.the-variants.{Head, Node, Tx, Rx, Signal, Destination, Broken}
 use Rattle.records.specs.Kinds.{stageOf}
@@ -13,7 +13,7 @@ use Rattle.facts.specs.Good.{InPlace}
 use Rattle.facts.proofs.Places.{later}
 use Rattle.area.specs.Layout.{orderByte, order}
 use Rattle.opening.specs.Opened.{withRecord, withRecords}
-use Rattle.opening.proofs.Kept.{same-tx, same-rx}
+use Rattle.opening.proofs.Kept.{same-node, same-tx, same-rx}
 
 -- of a record: one that is no head leaves the order, and the first one makes it
 record Orders (r : Record) (a b : List ℕ) : Type 0 where
@@ -26,7 +26,7 @@ leaves r a b none e = record { kept = λ h. e; made = λ rs l z. e ∙ z ∙ sym
 orders : (at : ℕ) (r : Record) (a : List ℕ) → Orders r a (withRecord at r a)
 unfolding withRecord orderIn stageOf
 orders at (Head o) a = record { kept = λ h. absurd (omega arith); made = λ rs l z. getD-set-same a 3 o 0 l }
-orders at (Node body) a = leaves (Node body) a _ (λ rs. refl) (getD-set-other a 6 3 _ 0 (λ e. omega arith))
+orders at (Node body) a = leaves (Node body) a _ (λ rs. refl) (same-node (λ j. j ≡ 3) (body .of) a (omega arith) (omega arith) .at 3 refl)
 orders at (Tx x) a = leaves (Tx x) a _ (λ rs. refl) (same-tx (λ j. j ≡ 3) (omega arith) at x a (omega arith) (omega arith) .at 3 refl)
 orders at (Rx x) a = leaves (Rx x) a _ (λ rs. refl) (same-rx (λ j. j ≡ 3) (omega arith) at x a (omega arith) (omega arith) .at 3 refl)
 orders at (Signal body) a = leaves (Signal body) a a (λ rs. refl) refl

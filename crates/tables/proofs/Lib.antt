@@ -12,7 +12,9 @@ pub mod Stored
 pub mod Spared
 pub mod TxLeft
 pub mod TxRecords
+pub mod RoomLaws
 pub mod RingLaws
+pub mod NodeTypes
 pub mod HeadOrder
 pub mod TxOpened
 pub mod Opened

@@ -19,7 +19,7 @@ use Rattle.facts.specs.Good.{GoodPlan}
 use Rattle.area.specs.Layout.{rxCountBytes, headerEnd, queuesStart, LongEnough, node}
 use Rattle.area.proofs.Frame.{Same, same-refl, same-then, same-two, same-setLow}
 use Rattle.opening.specs.Opened.{nextRx, withRxTimer, withRow, withNodeRow, withRx, opened}
-use Rattle.tables.proofs.RxSide.{leaves-rx-timer, leaves-row, RxClear, leaves-rx}
+use Rattle.tables.proofs.RxSide.{leaves-rx-timer, leaves-row, leaves-request, RxClear, leaves-rx}
 use Rattle.tables.proofs.RowWalk.{Meets, blank-two, opened-walk}
 use Rattle.tables.proofs.RowFacts.{row-node}
 use Rattle.tables.proofs.NodeSpans.{nodeAt, Among, among-other, among-first, among-next}
@@ -91,7 +91,9 @@ module _ (at : ℕ) (x : RxFrame) (a : List ℕ) where
 
     after-node : Same InNodes (withNodeRow n (nextRx a) rowed) (withRx at x a)
     unfolding withRx
-    after-node = rw is (same-setLow rxCountBytes (nextRx a + 1) (omega arith) (omega arith) (same-refl (withNodeRow n (nextRx a) rowed)))
+    after-node =
+        rw is
+        (same-setLow rxCountBytes (nextRx a + 1) (omega arith) (omega arith) (leaves-request n (withNodeRow n (nextRx a) rowed) (omega arith)))
 
     own-count : count a n < 65535 → count (withRx at x a) n ≡ count a n + 1
     own-count m =

@@ -16,10 +16,10 @@ use Rattle.facts.proofs.Lists.{each-at}
 use Rattle.tables.specs.Reads.{rowAt}
 use Rattle.tables.proofs.RxSide.{Kind, frame, other, kind}
 
-abbrev Ranged : ℕ → List Row → Type 0
+abbrev pub Ranged : ℕ → List Row → Type 0
 Ranged m rows = Each (λ (s : Row). RxRanges m (s .frame)) rows
 
-rows-range : (m n : ℕ) (rs : List Record) → Each (λ r. inRange m r ≡ true) rs → Ranged m (rowsFrom n rs)
+pub rows-range : (m n : ℕ) (rs : List Record) → Each (λ r. inRange m r ≡ true) rs → Ranged m (rowsFrom n rs)
 unfolding Each rowsFrom rowOf inRange
 rows-range m n [] h = tt
 rows-range m n (r ∷ rs) h = go (kind 0 r) (λ k. rows-range m k rs (h .1))

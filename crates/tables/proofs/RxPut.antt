@@ -9,10 +9,10 @@ use Rattle.base.specs.Numbers.{byteAt, lowAt, setLow}
 use Rattle.base.proofs.Ranges.{low-same}
 use Rattle.clock.specs.Counter.{maskOf}
 use Rattle.records.specs.declared.record.RxFrame.{RxFrame}
-use Rattle.area.specs.Layout.{queuesStart, rxReloadsStart, keysStart, rxMasksStart, LongEnough, rxReload, rxTimer, long, key, rxPlace, rxMask}
+use Rattle.area.specs.Layout.{rxReloadsStart, keysStart, rxMasksStart, LongEnough, rxReload, rxTimer, long, key, rxPlace, rxMask}
 use Rattle.area.proofs.Frame.{Same, same-refl, same-then, same-two, same-setLow}
 use Rattle.opening.specs.Opened.{nextRx, withRxTimer, withRow, withRx}
-use Rattle.tables.proofs.RxSide.{Clear, put-two, leaves-row, leaves-node-row}
+use Rattle.tables.proofs.RxSide.{Clear, put-two, leaves-row, leaves-node-row, leaves-request}
 
 -- all that stands for Rx frame r, whose record x is at a place of the plan
 pub record Put (a : List ℕ) (r at : ℕ) (x : RxFrame) : Type 0 where
@@ -90,12 +90,15 @@ module _ (r : ℕ) (x : RxFrame) (a : List ℕ) (h : r < 256) (l : LongEnough a)
         let b = setLow (setLow a (key r) (x .id % 65536)) (key r + 2) (x .id / 65536) in
         low-same b (rxPlace r) at (simp length-set (omega arith)) k
 
--- after the row come the node and the count
+-- after the row come the node, the request and the count
 after-row :
-    {P : ℕ → Type 0} (at : ℕ) (x : RxFrame) (a : List ℕ) → Clear P 0 queuesStart
+    {P : ℕ → Type 0} (at : ℕ) (x : RxFrame) (a : List ℕ) → Clear P 0 rxReloadsStart
     → Same P (withRow (nextRx a) at x (withRxTimer (nextRx a) x a)) (withRx at x a)
 unfolding withRx
-after-row at x a low = put-two low _ _ (omega arith) (omega arith) (leaves-node-row _ _ _ (λ j l h. low j (omega arith) (omega arith)))
+after-row at x a low =
+    put-two low _ _ (omega arith) (omega arith)
+    (same-then (leaves-node-row _ _ _ (λ j l h. low j (omega arith) (omega arith)))
+    (leaves-request _ _ (λ j l h. low j (omega arith) (omega arith))))
 
 pub put-one : (at : ℕ) (x : RxFrame) (a : List ℕ) → LongEnough a → x .id < 2048 → at < 65536 → Put (withRx at x a) (nextRx a) at x
 put-one at x a l small here′ =

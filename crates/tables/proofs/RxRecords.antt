@@ -46,6 +46,7 @@ below-clear k n h l =
     record {
       count = λ j lo hi p. omega (arith, p .tables);
       node = λ j lo hi p. omega (arith, p .tables);
+      room = λ j lo hi p. omega (arith, p .tables);
       reload = λ j lo hi p. omega (arith, p .reload (omega arith));
       timer = λ j lo hi p. omega (arith, p .timer (omega arith) (omega arith));
       long = λ j lo hi p. omega (arith, p .long (omega arith) (omega arith));

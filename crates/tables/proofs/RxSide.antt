@@ -11,11 +11,12 @@ use Rattle.records.specs.declared.record.RxFrame.{RxFrame}
 use Rattle.records.specs.declared.record.Record.{Record}
 use Rattle.records.specs.declared.record.Record.the-variants.{Head, Node, Tx, Rx, Signal, Destination, Broken}
 use Rattle.plan.specs.Rows.{rowsFrom}
-use Rattle.area.specs.Layout.{headerEnd, rxCountBytes, queuesStart, rxReloadsStart, txTimersStart, rxTimersStart, fullStart, keysStart}
-use Rattle.area.specs.Layout.{payloadsStart, rxMasksStart, node, rxReload, rxTimer, long, key, rxPlace, payload, rxMask}
+use Rattle.area.specs.Layout.{nodeCountByte, canCountByte, txCountBytes, rxCountBytes, headerEnd, queuesStart, rxReloadsStart, txTimersStart}
+use Rattle.area.specs.Layout.{rxTimersStart, fullStart, keysStart, payloadsStart, rxMasksStart}
+use Rattle.area.specs.Layout.{node, queue, rxReload, rxTimer, long, key, rxPlace, payload, rxMask}
 use Rattle.area.proofs.Frame.{Same, same-refl, same-then, same-set, same-setLow, same-pick}
 use Rattle.opening.specs.Opened.{withTxTimer, withPayload, withFrame, withTx, withRecord, withRings, withFullness}
-use Rattle.opening.specs.Opened.{nextRx, withRxTimer, withRow, withNodeRow, withRx}
+use Rattle.opening.specs.Opened.{nextRx, withRxTimer, withRow, withNodeRow, withRequest, withRx, withCan, withNode}
 
 -- P names no place from low to before high
 abbrev pub Clear : (ℕ → Type 0) → ℕ → ℕ → Type 0
@@ -45,6 +46,17 @@ module _ {P : ℕ → Type 0} where
       put-two place _ _ (omega arith) (omega arith)
       (put-two key _ _ (omega arith) (omega arith) (put-two key _ _ (omega arith) (omega arith) (same-refl a)))
 
+  -- a node record: the two counts
+  pub leaves-node : (type : ℕ) (a : List ℕ) → Clear P nodeCountByte txCountBytes → Same P a (withNode type a)
+  unfolding withNode withCan
+  leaves-node type a clear =
+      let s = put clear nodeCountByte _ (omega arith) (omega arith) (same-refl a) in
+      same-pick _ _ _ (put clear canCountByte _ (omega arith) (omega arith) s) s
+
+  pub leaves-request : (n : ℕ) (a : List ℕ) → Clear P (queue n + 2) (queue n + 4) → Same P a (withRequest n a)
+  unfolding withRequest withFrame
+  leaves-request n a clear = same-pick _ _ _ (same-refl a) (put-two clear _ _ (omega arith) (omega arith) (same-refl a))
+
   pub leaves-node-row : (n r : ℕ) (a : List ℕ) → Clear P (node n) (node n + 4) → Same P a (withNodeRow n r a)
   unfolding withNodeRow
   leaves-node-row n r a clear =
@@ -55,6 +67,7 @@ module _ {P : ℕ → Type 0} where
 pub record RxClear (P : ℕ → Type 0) (r n : ℕ) : Type 0 where
   pub count : Clear P rxCountBytes headerEnd
   pub node : Clear P (node n) (node n + 4)
+  pub room : Clear P (queue n + 2) (queue n + 4)
   pub reload : Clear P (rxReload r) (rxReload r + 1)
   pub timer : Clear P (rxTimer r) (rxTimer r + 1)
   pub long : Clear P (long r) (long r + 1)
@@ -67,7 +80,8 @@ unfolding withRx
 leaves-rx at x a c =
     put-two (c .count) _ _ (omega arith) (omega arith)
     (same-then (leaves-rx-timer _ x a (c .reload) (c .timer) (c .long) (c .mask))
-    (same-then (leaves-row _ at x _ (c .key) (c .place)) (leaves-node-row _ _ _ (c .node))))
+    (same-then (leaves-row _ at x _ (c .key) (c .place))
+    (same-then (leaves-node-row _ _ _ (c .node)) (leaves-request _ _ (c .room)))))
 
 pub rx-length : (at : ℕ) (x : RxFrame) (a : List ℕ) → length (withRx at x a) ≡ length a
 rx-length at x a = leaves-rx {P = λ j. ⊥} at x a (omega arith) .len
@@ -143,7 +157,7 @@ pub kind : (at : ℕ) (r : Record) → Kind at r
 unfolding rowsFrom withRecord
 kind at (Rx x) = frame x refl
 kind at (Head order) = other (λ n rs. refl) (λ a. put header-clear 3 order (omega arith) (omega arith) (same-refl a))
-kind at (Node body) = other (λ n rs. refl) (λ a. put header-clear 6 _ (omega arith) (omega arith) (same-refl a))
+kind at (Node body) = other (λ n rs. refl) (λ a. leaves-node (body .of) a (λ j l h. header-clear j (omega arith) (omega arith)))
 kind at (Tx x) = other (λ n rs. refl) (leaves-tx at x)
 kind at (Signal body) = other (λ n rs. refl) same-refl
 kind at (Destination body) = other (λ n rs. refl) same-refl

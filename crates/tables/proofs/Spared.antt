@@ -22,6 +22,7 @@ use Rattle.area.proofs.Frame.{Same, same-refl, same-then, same-set, same-pick}
 use Rattle.opening.specs.Opened.{nextTx, withTxTimer, withPayload, withFrame, withTx, withRxTimer}
 use Rattle.opening.specs.Opened.{withRow, withNodeRow, withRx, withRecord, withRings, withFullness}
 use Rattle.tables.proofs.Stored.{None, put, put-two, written, same-written}
+use Rattle.tables.proofs.RxSide.{leaves-node, leaves-request}
 
 -- ---- the parts of a Tx frame of number t
 
@@ -70,9 +71,10 @@ tx-length at x a = same-tx {P = λ j. ⊥} at x a (omega arith) (omega arith) (o
 
 -- ---- the other records
 
--- P names no place of the header, the nodes and the Rx frames
+-- P names no place of the header, the nodes, the queues' rooms and the Rx frames
 pub record NoRx (P : ℕ → Type 0) : Type 0 where
   pub low : None P 0 queuesStart
+  pub rooms : (n : ℕ) → n < 16 → None P (queue n + 2) (queue n + 4)
   pub reloads : None P rxReloadsStart txTimersStart
   pub timers : None P rxTimersStart waitsStart
   pub rows : None P keysStart rowsEnd
@@ -101,7 +103,9 @@ module _ {P : ℕ → Type 0} (f : NoRx P) where
   unfolding withRx
   same-rx at x a =
       put-two (f .low) rxCountBytes _ (omega arith) (omega arith)
-      (same-then (same-rx-timer _ x a (omega arith)) (same-then (same-row _ at x _ (omega arith)) (same-node-row _ _ _ (omega arith))))
+      (same-then (same-rx-timer _ x a (omega arith))
+      (same-then (same-row _ at x _ (omega arith))
+      (same-then (same-node-row _ _ _ (omega arith)) (leaves-request _ _ (f .rooms (x .node % 16) (omega arith))))))
 
 -- a record that is no Tx frame: it leaves all places of the Tx frames
 pub record Other (r : Record) : Type 1 where
@@ -126,7 +130,7 @@ along Q none tx other at (r ∷ rs) a = step r (along Q none tx other _ rs (with
     step : (r : Record) → Q (at + sizeOf r) rs (withRecord at r a) → Q at (r ∷ rs) a
     step (Tx x) = tx at x rs a
     step (Head o) = by (Head o) (λ rs. refl) (λ P f at a. put (f .low) 3 o (omega arith) (omega arith) (same-refl a))
-    step (Node body) = by (Node body) (λ rs. refl) (λ P f at a. put (f .low) 6 _ (omega arith) (omega arith) (same-refl a))
+    step (Node body) = by (Node body) (λ rs. refl) (λ P f at a. leaves-node (body .of) a (λ j l h. f .low j (omega arith) (omega arith)))
     step (Rx x) = by (Rx x) (λ rs. refl) (λ P f at a. same-rx f at x a)
     step (Signal body) = by (Signal body) (λ rs. refl) (λ P f at a. same-refl a)
     step (Destination body) = by (Destination body) (λ rs. refl) (λ P f at a. same-refl a)

@@ -32,9 +32,13 @@ pub record Left (k j : ℕ) : Type 0 where
   pub payloads : payloadsStart ≤ j → j < txMasksStart → j < payload k
   pub masks : txMasksStart ≤ j → j < masksEnd → j < txMask k
 
+left-queues : (k n : ℕ) → n < 16 → None (Left k) (queue n) (queue n + 4)
+left-queues k n h j l m p = omega (arith, p .queues (omega arith))
+
 left-rx : (k : ℕ) → k ≤ 256 → NoRx (Left k)
 left-rx k h = record {
   low = λ j l m p. omega arith;
+  rooms = λ n b j l m p. left-queues k n b j (omega arith) m p;
   reloads = λ j l m p. omega (arith, p .reloads (omega arith) m);
   timers = λ j l m p. omega (arith, p .timers (omega arith) m);
   rows = λ j l m p. omega (arith, p .tables (omega arith) m);
@@ -49,9 +53,6 @@ left-tx k t h b = record {
   payload = λ j l m p. omega (arith, p .payloads (omega arith) (omega arith));
   mask = λ p. omega (arith, p .masks (omega arith) (omega arith));
 }
-
-left-queues : (k n : ℕ) → n < 16 → None (Left k) (queue n) (queue n + 4)
-left-queues k n h j l m p = omega (arith, p .queues (omega arith))
 
 -- ---- the area after one record: its length, and the number that the next Tx frame gets
 

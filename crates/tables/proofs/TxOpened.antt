@@ -1,5 +1,5 @@
 -- What an area that a good plan opened holds of the header, the Tx frames and the queues.
-use mathlib.Core.Path.{_≡_, refl, _∙_}
+use mathlib.Core.Path.{_≡_, refl, sym, _∙_}
 use mathlib.Core.List.{List}
 use Prim.Native.Nat.{ℕ, zero, suc, _+_, _/_, _<_, _≤_}
 use native.Mathlib.Omega.{arith}
@@ -10,26 +10,30 @@ use Rattle.bits.specs.Payload.{digitOf, bitAt}
 use Rattle.bits.specs.Owners.{owners}
 use Rattle.bits.proofs.OwnerLaws.{owners-le}
 use Rattle.records.specs.Records.{records, eightBytes}
+use Rattle.records.specs.Nodes.{isLin}
 use Rattle.plan.specs.declared.verdict.Verdict.the-variants.{Good}
 use Rattle.plan.specs.Check.{checkPlan, setsOf}
-use Rattle.plan.specs.Rows.{txOf, nodesIn, orderIn}
+use Rattle.plan.specs.Rows.{txOf, rowsOf, nodesIn, cansIn, orderIn}
 use Rattle.facts.specs.Good.{GoodPlan}
 use Rattle.facts.proofs.GoodFacts.{good-facts}
 use Rattle.facts.proofs.Bounds.{good-bounds}
-use Rattle.area.specs.Layout.{orderByte, nodeCountByte, txCountBytes, fullStart, planStart, lastPlace, LongEnough}
-use Rattle.area.specs.Layout.{queue, txTimer, waits, full, txPlace, payload, spot, order, stored, txFrame}
+use Rattle.facts.proofs.ByNumber.{good-types, cans-few}
+use Rattle.area.specs.Layout.{orderByte, nodeCountByte, canCountByte, txCountBytes, fullStart, planStart, lastPlace, waiterRange, LongEnough}
+use Rattle.area.specs.Layout.{queue, txTimer, waits, full, txPlace, payload, spot, order, typeOn, stored, txFrame}
 use Rattle.area.specs.Queue.{endsOf}
 use Rattle.area.proofs.Frame.{Same, same-two}
 use Rattle.opening.specs.Opened.{blank, withRecords, ringsBefore, withRings, withFullness, opened}
 use Rattle.opening.proofs.BlankLaws.{blank-length, blank-zero}
-use Rattle.opening.proofs.OpenedLaws.{opened-length, opened-marked, opened-plan, opened-counts}
-use Rattle.tables.specs.Reads.{plannedTx, framesOn, Header, TxTable, Rings, initial}
+use Rattle.opening.proofs.OpenedLaws.{opened-length, opened-marked, opened-plan, opened-cans, opened-counts}
+use Rattle.tables.specs.Reads.{plannedTx, typeAt, waitersOn, Header, TxTable, Rings, initial}
 use Rattle.tables.proofs.Verbatim.{opened-verbatim, tx-ends, tx-read}
 use Rattle.tables.proofs.Stored.{rows-at}
 use Rattle.tables.proofs.Spared.{same-rings, same-fullness}
 use Rattle.tables.proofs.TxLeft.{Left, left-records, left-last}
 use Rattle.tables.proofs.TxRecords.{PutTx, put-kept, put-records}
-use Rattle.tables.proofs.RingLaws.{room-records, frames-le, ring-start, ring-room, ring-within, ring-apart}
+use Rattle.tables.proofs.RoomLaws.{room-records}
+use Rattle.tables.proofs.RingLaws.{total, waiters-le, waiters-total, ring-start, ring-room, ring-within, ring-apart}
+use Rattle.tables.proofs.NodeTypes.{asked-by-type}
 use Rattle.tables.proofs.HeadOrder.{order-records}
 
 -- a bit of a kept payload is that bit of its eight bytes
@@ -94,6 +98,10 @@ module _ (plan a : List ℕ) (n t r : ℕ) (good : checkPlan plan ≡ Good n t r
       let z = blank-zero plan a room orderByte (omega arith) (omega arith) (omega arith) (omega arith) (omega arith) in
       low .at orderByte (omega arith) ∙ s .at orderByte refl ∙ order-records 0 (records plan) (blank plan a) (facts .place) (omega (arith, long)) z
 
+  type-is : (k : ℕ) → k < nodesIn (records plan) → typeOn (opened plan a) k ≡ typeAt plan k
+  unfolding typeOn
+  type-is k h = rw (opened-cans plan a room (omega (arith, cans-few plan facts))) (sym (good-types plan facts k h))
+
   pub opened-header : Header plan (opened plan a)
   opened-header =
       let c = opened-counts plan a n t r good room in
@@ -104,6 +112,7 @@ module _ (plan a : List ℕ) (n t r : ℕ) (good : checkPlan plan ≡ Good n t r
         holds = opened-plan plan a room (omega (arith, good-bounds plan n t r good .short));
         order = order-is;
         nodes = c .nodes ∙ k .nodes;
+        types = type-is;
         tx = c .tx ∙ k .tx;
         rx = c .rx ∙ k .rx;
       }
@@ -142,32 +151,39 @@ module _ (plan a : List ℕ) (n t r : ℕ) (good : checkPlan plan ≡ Good n t r
 
   -- ---- the queues
 
-  counted : (k : ℕ) → k < 16 → lowAt recorded (queue k + 2) ≡ framesOn k (txOf plan)
-  unfolding txOf
+  counted : (k : ℕ) → k < 16 → lowAt recorded (queue k + 2) ≡ waitersOn plan k
+  unfolding txOf rowsOf
   counted k h =
       let z = zeros (queue k + 2) (omega arith) (omega arith) in
       let y = zeros (queue k + 2 + 1) (omega arith) (omega arith) in
-      let e = room-records k h (nodesIn (records plan)) (facts .counts .nodes) 0 (records plan) (blank plan a) (facts .ranges) long in
-      e (omega (arith, few, frames-le k (txOf plan))) ∙ omega arith
+      let asked = asked-by-type plan facts k in
+      let e =
+      room-records k h (nodesIn (records plan)) (cansIn (records plan)) (facts .counts .nodes) (omega (arith, cans-few plan facts)) 0 0 0 (records plan)
+      (blank plan a)
+      (record { place = facts .place; ranges = facts .ranges; can = omega (arith, zeros canCountByte (omega arith) (omega arith)); size = long }) in
+      e (omega (arith, few, facts .counts .rx, waiters-le (txOf plan) (rowsOf plan) (λ k. isLin (typeAt plan k)) k)) ∙ omega arith
 
-  ring : (k : ℕ) → k < 16 → (endsOf (opened plan a) k .start ≡ ringsBefore recorded k) × (endsOf (opened plan a) k .room ≡ framesOn k (txOf plan) + 1)
+  most : (k : ℕ) → total (waitersOn plan) k ≤ 512
+  most k = omega (arith, few, facts .counts .rx, waiters-total (txOf plan) (rowsOf plan) (λ k. isLin (typeAt plan k)) k)
+
+  ring : (k : ℕ) → k < 16 → (endsOf (opened plan a) k .start ≡ ringsBefore recorded k) × (endsOf (opened plan a) k .room ≡ waitersOn plan k + 1)
   unfolding endsOf
   ring k h =
       let e = same-two low (queue k + 2) (omega arith) (omega arith) in (
         same-two low (queue k) (omega arith) (omega arith)
-            ∙ ring-start (txOf plan) few recorded counted (omega (arith, left-blank .len, long)) k h,
-        rw e (ring-room (txOf plan) few recorded counted k h),
+            ∙ ring-start (waitersOn plan) most recorded counted (omega (arith, left-blank .len, long)) k h,
+        rw e (ring-room (waitersOn plan) most recorded counted k h),
       )
 
   pub opened-rings : (k : ℕ) → k < 16 → Rings plan (opened plan a) k
   opened-rings k h =
       let x = ring k h in
       record {
-        within = rw (x .0, x .1) (ring-within (txOf plan) few recorded counted k h);
+        within = rw (x .0, x .1) (ring-within (waitersOn plan) most recorded counted k h);
         room = x .1;
         apart = λ m l d.
             let y = ring m l in
-            rw (x .0, x .1, y .0, y .1) (ring-apart (txOf plan) few recorded counted m k l h d);
+            rw (x .0, x .1, y .0, y .1) (ring-apart (waitersOn plan) most recorded counted m k l h d);
       }
 
   -- ---- what has begun
@@ -184,7 +200,7 @@ module _ (plan a : List ℕ) (n t r : ℕ) (good : checkPlan plan ≡ Good n t r
   pub opened-tx-timer : (k : ℕ) → k < length (txOf plan) → byteAt (opened plan a) (txTimer k) ≡ plannedTx plan k .initial
   opened-tx-timer k h = puts k h .initial
 
-  pub opened-waits : (k : ℕ) → k < 256 → byteAt (opened plan a) (waits k) ≡ 0
+  pub opened-waits : (k : ℕ) → k < waiterRange → byteAt (opened plan a) (waits k) ≡ 0
   opened-waits k h = still (waits k) (omega arith) (omega arith) (omega arith)
 
   pub opened-empty : (k : ℕ) → k < 16 → (endsOf (opened plan a) k .first ≡ 0) × (endsOf (opened plan a) k .waiting ≡ 0)

@@ -11,13 +11,16 @@ use Rattle.base.specs.Numbers.{byteAt, lowAt}
 use Rattle.bits.specs.Payload.{bitAt}
 use Rattle.bits.specs.Owners.{owners}
 use Rattle.clock.specs.Counter.{maskOf}
+use Rattle.records.specs.declared.record.NodeType.{NodeType}
+use Rattle.records.specs.declared.record.NodeType.the-variants.{Can}
 use Rattle.records.specs.declared.record.TxFrame.{TxFrame}
 use Rattle.records.specs.Views.{noTx}
 use Rattle.records.specs.Records.{records, eightBytes}
+use Rattle.records.specs.Nodes.{isLin}
 use Rattle.plan.specs.Check.{setsOf}
-use Rattle.plan.specs.Rows.{Row, noRow, rowsOf, txOf, nodesIn, orderIn}
-use Rattle.area.specs.Layout.{LongEnough, txReload, rxReload, txTimer, rxTimer, long, waits, full, txMask, rxMask, spot, marked}
-use Rattle.area.specs.Layout.{counter, order, nodeCount, txCount, rxCount, firstRow, rowCount, keyAt, planOf, txFrame, rxFrame, claims}
+use Rattle.plan.specs.Rows.{Row, noRow, rowsOf, txOf, nodesIn, typesIn, orderIn}
+use Rattle.area.specs.Layout.{waiterRange, LongEnough, txReload, rxReload, txTimer, rxTimer, long, waits, full, txMask, rxMask, spot, marked}
+use Rattle.area.specs.Layout.{counter, order, nodeCount, typeOn, txCount, rxCount, firstRow, rowCount, keyAt, planOf, txFrame, rxFrame, claims}
 use Rattle.area.specs.Queue.{endsOf, Apart}
 
 -- ---- the plan's frames by number; a number that is no frame's has an empty one
@@ -33,6 +36,19 @@ unfoldable pub framesOn : ℕ → List TxFrame → ℕ
 framesOn n [] = 0
 framesOn n (x ∷ xs) = pick (eqb (x .node) n) 1 0 + framesOn n xs
 
+-- how many of some rows are of node n
+unfoldable pub rowsOn : ℕ → List Row → ℕ
+rowsOn n [] = 0
+rowsOn n (x ∷ xs) = pick (eqb (x .frame .node) n) 1 0 + rowsOn n xs
+
+-- the type of node n
+abbrev pub typeAt : List ℕ → ℕ → NodeType
+typeAt plan n = getD (typesIn (records plan)) n Can
+
+-- how many can wait on node n: its Tx frames, and on a LIN node the requests for its Rx frames
+abbrev pub waitersOn : List ℕ → ℕ → ℕ
+waitersOn plan n = framesOn n (txOf plan) + pick (isLin (typeAt plan n)) (rowsOn n (rowsOf plan)) 0
+
 -- ---- what no later call changes
 
 pub record Header (plan a : List ℕ) : Type 0 where
@@ -41,6 +57,7 @@ pub record Header (plan a : List ℕ) : Type 0 where
   pub holds : planOf a ≡ plan
   pub order : order a ≡ orderIn (records plan)
   pub nodes : nodeCount a ≡ nodesIn (records plan)
+  pub types : (n : ℕ) → n < nodesIn (records plan) → typeOn a n ≡ typeAt plan n
   pub tx : txCount a ≡ length (txOf plan)
   pub rx : rxCount a ≡ length (rowsOf plan)
 
@@ -65,10 +82,10 @@ pub record NodeTable (plan a : List ℕ) (n : ℕ) : Type 0 where
   pub theirs : (i : ℕ) → i < rowCount a n → rowAt plan (firstRow a n + i) .frame .node ≡ n
   pub all : (r : ℕ) → r < length (rowsOf plan) → rowAt plan r .frame .node ≡ n → (firstRow a n ≤ r) × (r < firstRow a n + rowCount a n)
 
--- each node has a ring of its own, with room for all of its Tx frames and one more
+-- each node has a ring of its own, with room for all that can wait on it and one more
 pub record Rings (plan a : List ℕ) (n : ℕ) : Type 0 where
   pub within : endsOf a n .start + endsOf a n .room ≤ 528
-  pub room : endsOf a n .room ≡ framesOn n (txOf plan) + 1
+  pub room : endsOf a n .room ≡ waitersOn plan n + 1
   pub apart : (m : ℕ) → m < 16 → m ≢ n → Apart (endsOf a m) (endsOf a n)
 
 pub record Reads (plan a : List ℕ) : Type 0 where
@@ -90,5 +107,5 @@ pub record Begun (plan a : List ℕ) : Type 0 where
   pub txTimer : (t : ℕ) → t < length (txOf plan) → byteAt a (txTimer t) ≡ plannedTx plan t .initial
   pub rxTimer : (r : ℕ) → r < length (rowsOf plan) → byteAt a (rxTimer r) ≡ rowAt plan r .frame .initial
   pub long : (r : ℕ) → r < length (rowsOf plan) → byteAt a (long r) ≡ rowAt plan r .frame .long
-  pub waits : (t : ℕ) → t < 256 → byteAt a (waits t) ≡ 0
+  pub waits : (k : ℕ) → k < waiterRange → byteAt a (waits k) ≡ 0
   pub empty : (n : ℕ) → n < 16 → (endsOf a n .first ≡ 0) × (endsOf a n .waiting ≡ 0)

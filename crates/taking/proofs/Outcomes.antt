@@ -5,16 +5,15 @@ use mathlib.Core.List.{List}
 use Prim.Native.Nat.{ℕ, _-_, _≤_, _<_}
 use borrow.Author.Tests.{lt-ltb, le-ltb, eq-eqb, ne-eqb}
 use Rattle.base.specs.Pick.{pick}
-use Rattle.records.specs.declared.record.TxNumber.{TxNumber}
-use Rattle.area.specs.Layout.{marked, nodeCount, txCount, inWidth, ownedBits, txFrame}
-use Rattle.area.specs.Queue.{endsOf, oldest, dequeued}
+use Rattle.area.specs.Layout.{marked, nodeCount, txCount, ownedBits}
+use Rattle.area.specs.Queue.{endsOf, entryOf, oldest, dequeued}
 use Rattle.area.specs.declared.queue.Ends.{Ends}
 use Rattle.answers.specs.declared.Refusal.the-variants.{NotOpen, NoNode, NoFrame}
 use Rattle.answers.specs.declared.Taken.{Taken}
 use Rattle.answers.specs.declared.Taken.the-variants as taken
 use Rattle.answers.specs.declared.Fullness.{Fullness}
 use Rattle.answers.specs.declared.Fullness.the-variants as fullness
-use Rattle.taking.specs.Taken.{oldestAnswer, oldestArea, takenAnswer, takenArea, fullnessAnswer}
+use Rattle.taking.specs.Taken.{entryAnswer, oldestAnswer, oldestArea, takenAnswer, takenArea, fullnessAnswer}
 
 module _ (a : List ℕ) (n : ℕ) where
   abbrev pub Comes : Taken → List ℕ → Type 0
@@ -37,15 +36,15 @@ module _ (a : List ℕ) (n : ℕ) where
           let u = eq-eqb (endsOf a n .waiting) 0 e in
           (rw (opened, t, u), rw (opened, t, u))
 
-      -- e are the ends of the queue, and t is the oldest frame
+      -- e are the ends of the queue, and k is the number of the oldest
       pub leaves :
-          (e : Ends) (t : TxNumber) (id size : ℕ) (b : List ℕ) → e ≡ endsOf a n → t .0 ≡ oldest a n → id ≡ txFrame a (t .0) .id
-          → size ≡ inWidth (txFrame a (t .0) .size) → (e .waiting ≡ 0 → ⊥) → b ≡ dequeued a n → Comes (taken.Frame t id size (e .waiting - 1)) b
+          (e : Ends) (k : ℕ) (x : Taken) (b : List ℕ) → e ≡ endsOf a n → k ≡ oldest a n → x ≡ entryAnswer a n (entryOf k) (e .waiting - 1)
+          → (e .waiting ≡ 0 → ⊥) → b ≡ dequeued a n → Comes x b
       unfolding takenAnswer takenArea oldestAnswer oldestArea pick
-      leaves e t id size b ends first read sized d left =
-          let k = lt-ltb n (nodeCount a) known in
+      leaves e k x b ends first answered d left =
+          let t = lt-ltb n (nodeCount a) known in
           let u = ne-eqb (endsOf a n .waiting) 0 (rw ends at d) in
-          (rw (opened, k, u, ← first, sized, read, ends), rw (opened, k, u) left)
+          (rw (opened, t, u, ← first, ← ends) answered, rw (opened, t, u) left)
 
 module _ (a : List ℕ) (t : ℕ) where
   pub full-not-open : marked a ≡ false → fullness.Refused NotOpen ≡ fullnessAnswer a t

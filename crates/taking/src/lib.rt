@@ -1,12 +1,19 @@
 // Take, the payload that a take hands back, and fullness.
+use answers::Framing;
 use answers::Fullness;
 use answers::Refusal;
 use answers::Taken;
+use answers::TakenFrame;
+use answers::TakenRequest;
 use area::frames::owned_bits;
+use area::frames::rx_id;
+use area::frames::rx_record_place;
+use area::frames::rx_size;
 use area::frames::tx_id;
 use area::frames::tx_size;
 use area::header::has_node;
 use area::header::is_marked;
+use area::header::node_type;
 use area::header::tx_count;
 use area::layout;
 use area::layout::AREA_LENGTH;
@@ -14,12 +21,20 @@ use area::layout::in_range;
 use area::layout::in_width;
 use area::queue::dequeue;
 use area::queue::ends_at;
+use area::queue::entry_of;
 use area::queue::oldest_of;
+use records::record::Entry;
+use records::record::NodeType;
+use records::record::RxNumber;
 use records::record::TxNumber;
 ghost use mathlib.Core.Path.{_≡_};
-ghost use Rattle.taking.specs.Taken.{takenAnswer, takenArea, keptPart, takenPayload, fullnessAnswer};
+ghost use Prim.Native.Nat.{_<_};
+ghost use Rattle.records.specs.declared.record.Entry.the-variants.{Frame, Request};
+ghost use Rattle.area.specs.Layout.{waiterRange, LongEnough};
+ghost use Rattle.area.specs.Queue.{entryOf};
+ghost use Rattle.taking.specs.Taken.{keptPart, framingOf, entryAnswer, takenAnswer, takenArea, takenPayload, fullnessAnswer};
 
-// The oldest waiting frame of a node, which then waits no more.
+// The oldest waiting frame or request of a node, which then waits no more.
 pub fn take(area: &mut [u8], node: usize) -> Taken
     ensures answer { λ r. ⌜ r ≡ takenAnswer (now (area .entry)) node ⌝ }
     ensures bytes { λ r. ⌜ now (area .exit) ≡ takenArea (now (area .entry)) node ⌝ }
@@ -36,15 +51,69 @@ pub fn take(area: &mut [u8], node: usize) -> Taken
     if ends.waiting == 0 {
         return Taken::Nothing;
     }
-    let t = oldest_of(area, ends);
+    let number = oldest_of(area, ends);
+    let answer = answer_of(area, node, number, ends.waiting - 1);
+    dequeue(area, node, ends, number);
+    answer
+}
+
+// What leaves node `n`'s queue, by its number; so many wait after it.
+fn answer_of(area: &[u8], n: usize, number: usize, waiting: usize) -> Taken
+    requires { ⌜ (number < waiterRange) × LongEnough (now area) ⌝ }
+    ensures { λ x. ⌜ x ≡ entryAnswer (now (area .entry)) n (entryOf number) waiting ⌝ }
+{
+    match entry_of(number) {
+        Entry::Frame(t) => frame_of(area, n, t, waiting),
+        Entry::Request(r) => request_of(area, n, r, waiting),
+    }
+}
+
+fn frame_of(area: &[u8], n: usize, t: TxNumber, waiting: usize) -> Taken
+    requires { ⌜ (t .0 < 256) × LongEnough (now area) ⌝ }
+    ensures { λ x. ⌜ x ≡ entryAnswer (now (area .entry)) n (Frame t) waiting ⌝ }
+{
     let id = tx_id(area, t);
-    let size = tx_size(area, t);
-    dequeue(area, node, ends, t);
-    Taken::Frame {
+    let size = in_width(tx_size(area, t));
+    let framing = framing_of(area, n, id, t, size);
+    Taken::Frame(TakenFrame {
         tx: t,
         id,
-        size: in_width(size),
-        waiting: ends.waiting - 1,
+        size,
+        waiting,
+        framing,
+    })
+}
+
+fn request_of(area: &[u8], n: usize, r: RxNumber, waiting: usize) -> Taken
+    requires { ⌜ (r .0 < 256) × LongEnough (now area) ⌝ }
+    ensures { λ x. ⌜ x ≡ entryAnswer (now (area .entry)) n (Request r) waiting ⌝ }
+{
+    let at = rx_record_place(area, r);
+    let id = rx_id(area, at);
+    let size = rx_size(area, at);
+    Taken::Request(TakenRequest {
+        rx: r,
+        id,
+        size,
+        waiting,
+        protected: lin::protected(id),
+    })
+}
+
+// What goes with Tx frame `t` on node `n`: on LIN its protected identifier, and the checksum of the payload that is handed back.
+fn framing_of(area: &[u8], n: usize, id: usize, t: TxNumber, size: usize) -> Framing
+    requires { ⌜ LongEnough (now area) ⌝ }
+    ensures { λ x. ⌜ x ≡ framingOf (now (area .entry)) n id (keptPart (now (area .entry)) (t .0) size) ⌝ }
+{
+    match node_type(area, n) {
+        NodeType::Can => Framing::Can,
+        NodeType::Lin => {
+            let protected = lin::protected(id);
+            Framing::Lin {
+                protected,
+                checksum: lin::checksum(protected, part(area, t, size)),
+            }
+        }
     }
 }
 
@@ -65,14 +134,10 @@ pub fn payload(area: &[u8], taken: Taken) -> &[u8]
     ensures { λ r. ⌜ now r ≡ takenPayload (now (area .entry)) taken ⌝ }
 {
     match taken {
+        Taken::Frame(x) => part(area, x.tx, x.size),
+        Taken::Request(_) => &area[..0],
         Taken::Nothing => &area[..0],
         Taken::Refused(_) => &area[..0],
-        Taken::Frame {
-            tx,
-            id: _,
-            size,
-            waiting: _,
-        } => part(area, tx, size),
     }
 }
 

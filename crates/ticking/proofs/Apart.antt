@@ -10,12 +10,14 @@ use Rattle.base.specs.Numbers.{byteAt}
 use Rattle.base.proofs.Picks.{into}
 use Rattle.bits.specs.Payload.{setBit}
 use Rattle.plan.specs.Rows.{Source, copy, failure, Claim}
-use Rattle.area.specs.Layout.{txTimersStart, longStart, payloadsStart, queue, long, waits, txReload, txTimer, spot, order, txFrame, claims}
-use Rattle.area.specs.Queue.{endsOf, slot, behind, setEnds, queued, scheduled}
+use Rattle.area.specs.Layout.{txTimersStart, longStart, payloadsStart, requestsStart, queue, long, waits, txReload, txTimer, spot}
+use Rattle.area.specs.Layout.{order, txFrame, rxFrame, claims}
+use Rattle.area.specs.Queue.{endsOf, slot, behind, setEnds, queued, scheduled, requested}
 use Rattle.area.specs.Claims.{expired, doneBy, sentBy, done, allDone}
 use Rattle.area.proofs.Frame.{slot-low}
-use Rattle.area.proofs.Kept.{Kept, kept-refl, kept-low, order-kept, txFrame-kept, rxFrame-kept, claims-kept}
-use Rattle.ticking.specs.Tick.{longLowered, expiredArea}
+use Rattle.area.proofs.Kept.{Kept, kept-refl, kept-low, order-kept, typeOn-kept, txFrame-kept, rxFrame-kept, claims-kept}
+use Rattle.ticking.specs.Tick.{longLowered, expiredArea, rxOnLin, rxExpiry, expiryReport}
+use Rattle.ticking.proofs.ExpiryLaws.{report-set}
 
 module _ (p v : ℕ) (l : txTimersStart ≤ p) (m : p < longStart) where
   other : (a : List ℕ) (j : ℕ) → j ≢ p → byteAt (set a p v) j ≡ byteAt a j
@@ -99,7 +101,7 @@ module _ (p v : ℕ) (l : txTimersStart ≤ p) (m : p < longStart) where
   allDone-apart o r [] a = refl
   allDone-apart o r (c ∷ cs) a = ap (allDone o (expired r) cs) (done-apart o r c a) ∙ allDone-apart o r cs _
 
-  pub expired-apart : (a : List ℕ) (r : ℕ) → r < 256 → expiredArea (set a p v) r ≡ set (expiredArea a r) p v
+  expired-apart : (a : List ℕ) (r : ℕ) → r < 256 → expiredArea (set a p v) r ≡ set (expiredArea a r) p v
   unfolding expiredArea longLowered
   expired-apart a r h =
       let b = allDone (order a) (expired r) (claims a r) a in
@@ -110,6 +112,30 @@ module _ (p v : ℕ) (l : txTimersStart ≤ p) (m : p < longStart) where
         rxFrame-kept (kept-timer b) r h,
         other b (long r) (λ e. omega arith),
       ) (set-comm b p (long r) v _ (λ e. omega arith))
+
+  requested-apart : (a : List ℕ) (r : ℕ) → r < 256 → requested (set a p v) r ≡ set (requested a r) p v
+  unfolding requested
+  requested-apart a r h =
+      let n = rxFrame a r .node % 16 in
+      rw (
+        other a (waits (requestsStart + r)) (λ e. omega arith),
+        rxFrame-kept (kept-timer a) r h,
+        queued-apart a n (requestsStart + r) (omega arith),
+        set-comm (queued a n (requestsStart + r)) p (waits (requestsStart + r)) v 1 (λ e. omega arith),
+      ) (sym (into (λ (x : List ℕ). set x p v) _ _ _))
+
+  lin-apart : (a : List ℕ) (r : ℕ) → r < 256 → rxOnLin (set a p v) r ≡ rxOnLin a r
+  unfolding rxOnLin
+  lin-apart a r h = rw (rxFrame-kept (kept-timer a) r h, typeOn-kept (kept-timer a) (rxFrame a r .node % 16))
+
+  pub expiry-apart : (a : List ℕ) (r : ℕ) → r < 256 → rxExpiry (set a p v) r ≡ set (rxExpiry a r) p v
+  unfolding rxExpiry
+  expiry-apart a r h =
+      rw (lin-apart a r h, requested-apart a r h, expired-apart a r h) (sym (into (λ (x : List ℕ). set x p v) _ _ _))
+
+  pub report-apart : (a : List ℕ) (r : ℕ) → r < 256 → expiryReport (set a p v) r ≡ expiryReport a r
+  unfolding expiryReport
+  report-apart a r h = rw (lin-apart a r h, report-set a r p v (omega arith))
 
 -- scheduling a frame and then giving its timer the reload value, which it has already if it did not wait
 pub scheduled-stored :

@@ -1,14 +1,15 @@
 -- What the steps of a tick leave, over any set of places P that no step writes.
 use mathlib.Core.Path.{refl}
 use mathlib.Core.List.{List}
-use Prim.Native.Nat.{ℕ, zero, suc, _/_, _<_, _≤_}
+use Prim.Native.Nat.{ℕ, zero, suc, _+_, _/_, _<_, _≤_}
 use native.Mathlib.Omega.{arith}
 use Rattle.base.proofs.Ranges.{at-most-le}
-use Rattle.area.specs.Layout.{counterByte, spot, long, waits, txReload, rxReload, txTimer, rxTimer, order, txCount, rxCount, rxFrame, claims}
+use Rattle.area.specs.Layout.{counterByte, requestsStart, spot, long, waits, txReload, rxReload, txTimer, rxTimer, order, txCount, rxCount}
+use Rattle.area.specs.Layout.{rxFrame, claims}
 use Rattle.area.specs.Claims.{expired, allDone, failureWritten}
-use Rattle.area.proofs.Frame.{Same, same-refl, same-then, same-set, same-pick, same-setBit, NoEnds, NoRing, same-scheduled, Spared}
+use Rattle.area.proofs.Frame.{Same, same-refl, same-then, same-set, same-pick, same-setBit, NoEnds, NoRing, same-scheduled, same-requested, Spared}
 use Rattle.area.proofs.Kept.{Kept, planned}
-use Rattle.ticking.specs.Tick.{timed, txTick, txTicks, longLowered, expiredArea, rxTick, rxTicks, ticked}
+use Rattle.ticking.specs.Tick.{timed, txTick, txTicks, longLowered, expiredArea, rxExpiry, rxTick, rxTicks, ticked}
 use Rattle.ticking.proofs.ExpiryLaws.{failed}
 use Rattle.ticking.proofs.Positions.{Positions, positions-kept}
 
@@ -25,27 +26,31 @@ module _ {P : ℕ → Type 0} where
   unfolding timed
   same-timed a reload at never = same-set _ _ never (same-refl a)
 
-  -- the expiry of an Rx timer
+  -- a timeout, and the expiry of an Rx timer
   pub same-expired : (a : List ℕ) (r : ℕ) → (P (long r) → ⊥) → Missed P (rxFrame a r .position) → Same P a (expiredArea a r)
   unfolding expiredArea longLowered
   same-expired a r never missed = same-set _ _ never (same-failed a r missed)
 
-  -- the turn of one timer
-  pub same-rxTick :
-      (k : ℕ) (a : List ℕ) (r : ℕ) → (P (rxTimer r) → ⊥) → (P (long r) → ⊥) → Missed P (rxFrame (timed a (rxReload r) (rxTimer r)) r .position)
-      → Same P a (rxTick k a r)
-  unfolding rxTick
-  same-rxTick k a r timer never missed =
-      let s = same-timed a (rxReload r) (rxTimer r) timer in
-      same-pick _ _ _ (same-pick _ _ _ (same-then s (same-expired _ r never missed)) s) (same-refl a)
+  module _ (ends : (n : ℕ) → n < 16 → NoEnds P n) (ring : NoRing P) where
+    pub same-expiry :
+        (a : List ℕ) (r : ℕ) → (P (waits (requestsStart + r)) → ⊥) → (P (long r) → ⊥) → Missed P (rxFrame a r .position) → Same P a (rxExpiry a r)
+    unfolding rxExpiry
+    same-expiry a r wait never missed = same-pick _ _ _ (same-requested ends ring a r wait) (same-expired a r never missed)
 
-  pub same-txTick :
-      ((n : ℕ) → n < 16 → NoEnds P n) → NoRing P → (k : ℕ) (a : List ℕ) (t : ℕ) → (P (waits t) → ⊥) → (P (txTimer t) → ⊥)
-      → Same P a (txTick k a t)
-  unfolding txTick
-  same-txTick ends ring k a t never timer =
-      let s = same-timed a (txReload t) (txTimer t) timer in
-      same-pick _ _ _ (same-pick _ _ _ (same-then s (same-scheduled ends ring _ t never timer)) s) (same-refl a)
+    -- the turn of one timer
+    pub same-rxTick :
+        (k : ℕ) (a : List ℕ) (r : ℕ) → (P (rxTimer r) → ⊥) → (P (waits (requestsStart + r)) → ⊥) → (P (long r) → ⊥)
+        → Missed P (rxFrame (timed a (rxReload r) (rxTimer r)) r .position) → Same P a (rxTick k a r)
+    unfolding rxTick
+    same-rxTick k a r timer wait never missed =
+        let s = same-timed a (rxReload r) (rxTimer r) timer in
+        same-pick _ _ _ (same-pick _ _ _ (same-then s (same-expiry _ r wait never missed)) s) (same-refl a)
+
+    pub same-txTick : (k : ℕ) (a : List ℕ) (t : ℕ) → (P (waits t) → ⊥) → (P (txTimer t) → ⊥) → Same P a (txTick k a t)
+    unfolding txTick
+    same-txTick k a t never timer =
+        let s = same-timed a (txReload t) (txTimer t) timer in
+        same-pick _ _ _ (same-pick _ _ _ (same-then s (same-scheduled ends ring _ t never timer)) s) (same-refl a)
 
 module _ {P : ℕ → Type 0} (f : Spared P) where
   spared-txTick : (k : ℕ) (a : List ℕ) (t : ℕ) → t < 256 → Same P a (txTick k a t)
@@ -58,7 +63,9 @@ module _ {P : ℕ → Type 0} (f : Spared P) where
   same-txTicks k (suc n) a h = same-then (same-txTicks k n a (omega arith)) (spared-txTick k _ _ (omega arith))
 
   spared-rxTick : (k : ℕ) (a : List ℕ) (r : ℕ) → r < 256 → Missed P (rxFrame (timed a (rxReload r) (rxTimer r)) r .position) → Same P a (rxTick k a r)
-  spared-rxTick k a r h missed = same-rxTick k a r (f .low _ (omega arith) (omega arith)) (f .low _ (omega arith) (omega arith)) missed
+  spared-rxTick k a r h missed =
+      same-rxTick (f .ends) (λ j l m. f .high j l (omega arith)) k a r (f .low _ (omega arith) (omega arith)) (f .low _ (omega arith) (omega arith))
+      (f .low _ (omega arith) (omega arith)) missed
 
   -- P names no place of a failure bit, whatever its position
   pub same-rxTicks : ((q : ℕ) → Missed P q) → (k n : ℕ) (a : List ℕ) → n ≤ 256 → Same P a (rxTicks k n a)

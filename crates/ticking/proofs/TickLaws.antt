@@ -15,7 +15,7 @@ use Rattle.answers.specs.declared.Ticked.the-variants.{Done, Refused}
 use Rattle.area.specs.Layout.{counterByte, planStart, marked, counter, txCount, rxCount, planOf, txFrame, rxFrame, claims}
 use Rattle.area.proofs.Frame.{Same, Spared, same-tail}
 use Rattle.area.proofs.Kept.{in-plan, planOf-kept, txFrame-kept, rxFrame-kept, claims-kept}
-use Rattle.ticking.specs.Tick.{txTicks, expiredReport, rxReport, rxTicks, reported, ticked, tickedArea, tickedReport}
+use Rattle.ticking.specs.Tick.{txTicks, expiredReport, expiryReport, rxReport, rxTicks, reported, ticked, tickedArea, tickedReport}
 use Rattle.ticking.proofs.Positions.{Positions}
 use Rattle.ticking.proofs.TickFrame.{same-txTicks, same-rxTicks, same-ticked, kept-ticked}
 
@@ -71,10 +71,10 @@ by-answer P (Refused why) a done stayed = stayed
 
 -- 0 nothing, 1 short, 2 long
 pub rxReport-small : (k : ℕ) (a : List ℕ) (r : ℕ) → rxReport k a r ≤ 2
-unfolding rxReport expiredReport
+unfolding rxReport expiryReport expiredReport
 rxReport-small k a r =
     let P : ℕ → Type 0 = λ n. n ≤ 2 in
-    both P _ _ _ (both P _ _ _ (both P _ _ _ (omega arith) (omega arith)) (omega arith)) (omega arith)
+    both P _ _ _ (both P _ _ _ (both P _ _ _ (omega arith) (both P _ _ _ (omega arith) (omega arith))) (omega arith)) (omega arith)
 
 pub length-reported : (k n : ℕ) (a report : List ℕ) → length (reported k n a report) ≡ length report
 unfolding reported

@@ -16,17 +16,16 @@ use Rattle.base.specs.Numbers.{byteAt}
 use Rattle.base.proofs.Picks.{passes, into}
 use Rattle.clock.specs.Counter.{noCommonBit}
 use Rattle.clock.specs.Timer.{lowered}
-use Rattle.area.specs.Layout.{long, waits, txReload, rxReload, txTimer, rxTimer, txMask, rxMask, rxFrame}
+use Rattle.area.specs.Layout.{requestsStart, long, waits, txReload, rxReload, txTimer, rxTimer, txMask, rxMask, rxFrame}
 use Rattle.area.specs.Queue.{scheduled}
 use Rattle.area.proofs.Frame.{Same, same-refl, same-then, same-set, NoEnds, NoRing, same-scheduled}
-use Rattle.area.proofs.Kept.{Kept, kept-low, kept-refl}
-use Rattle.ticking.specs.Tick.{timed, txTick, txTicks, expiredArea, rxTick, rxReport, rxTicks, reported}
+use Rattle.area.proofs.Kept.{Kept, planned, kept-low, kept-refl}
+use Rattle.ticking.specs.Tick.{timed, txTick, txTicks, rxExpiry, rxTick, rxReport, rxTicks, reported}
 use Rattle.ticking.specs.Sixteen.{each, expiring, fell, markOf, marksOf, eachMarked, txStep, rxStep, stepReport}
 use Rattle.ticking.specs.Sixteen.{reportedFrom, putMarks, markedReport}
-use Rattle.ticking.proofs.ExpiryLaws.{report-set}
 use Rattle.ticking.proofs.Positions.{Positions, positions-kept}
-use Rattle.ticking.proofs.TickFrame.{Missed, same-txTick, same-expired, same-rxTick, kept-rxTick}
-use Rattle.ticking.proofs.Apart.{scheduled-apart, expired-apart, scheduled-stored}
+use Rattle.ticking.proofs.TickFrame.{Missed, same-txTick, same-expiry, same-rxTick, kept-rxTick}
+use Rattle.ticking.proofs.Apart.{scheduled-apart, expiry-apart, report-apart, scheduled-stored}
 use Rattle.ticking.proofs.Sixteens.{Of, turn-parted, marks-at, Turns, holds-fells, marked-fell, Marks, mark-turn, turns-parted}
 
 -- ---- a tick is made of parts
@@ -128,6 +127,15 @@ module _ (r u : ℕ) (h : r < u) (l : u < 256) where
   rx-timer : Of (inTable u) (rxTimer r) → ⊥
   rx-timer = ⊎-elim (λ e. omega arith) (λ e. omega arith)
 
+  rx-ends : (n : ℕ) → n < 16 → NoEnds (Of (inTable u)) n
+  rx-ends n b j x y = ⊎-elim (λ e. omega arith) (λ e. omega arith)
+
+  rx-ring : NoRing (Of (inTable u))
+  rx-ring j x y = ⊎-elim (λ e. omega arith) (λ e. omega arith)
+
+  rx-wait : Of (inTable u) (waits (requestsStart + r)) → ⊥
+  rx-wait = ⊎-elim (λ e. omega arith) (λ e. omega arith)
+
   rx-long : Of (inTable u) (long r) → ⊥
   rx-long = ⊎-elim (λ e. omega arith) (λ e. omega arith)
 
@@ -138,12 +146,12 @@ module _ (r u : ℕ) (h : r < u) (l : u < 256) where
   unfolding rxStep pick
   rx-same-after a p =
       same-then (same-set _ _ rx-timer (same-refl a))
-      (same-expired _ r rx-long (rx-missed _ (positions-kept (kept-own a r _ (omega arith)) p)))
+      (same-expiry rx-ends rx-ring _ r rx-wait rx-long (rx-missed _ (positions-kept (kept-own a r _ (omega arith)) p)))
 
   rx-same-turn : (k : ℕ) (a : List ℕ) → Positions a → Same (Of (inTable u)) a (rxTick k a r)
   unfolding timed
   rx-same-turn k a p =
-      same-rxTick k a r rx-timer rx-long (rx-missed _ (positions-kept (kept-own a r _ (omega arith)) p))
+      same-rxTick rx-ends rx-ring k a r rx-timer rx-wait rx-long (rx-missed _ (positions-kept (kept-own a r _ (omega arith)) p))
 
   rx-apart : (a : List ℕ) (v : ℕ) → rxStep 1 (set a (txTimer (inTable u)) v) r ≡ set (rxStep 1 a r) (txTimer (inTable u)) v
   unfolding rxStep pick
@@ -151,14 +159,16 @@ module _ (r u : ℕ) (h : r < u) (l : u < 256) where
       let p = txTimer (inTable u) in
       let w = lowered (byteAt a (rxReload r)) 1 in
       rw (getD-set-other a p (rxReload r) v 0 (λ e. omega arith), set-comm a p (rxTimer r) v w (λ e. omega arith))
-      (expired-apart p v (omega arith) (omega arith) (set a (rxTimer r) w) r (omega arith))
+      (expiry-apart p v (omega arith) (omega arith) (set a (rxTimer r) w) r (omega arith))
 
 kept-after : (a : List ℕ) (r : ℕ) → r < 256 → Positions a → Kept a (rxStep 1 a r)
 unfolding rxStep pick
 kept-after a r h p =
     let s = kept-own a r (lowered (byteAt a (rxReload r)) 1) h in
     let q = positions-kept s p r h in
-    same-then s (same-expired _ r (λ x. x .low (omega arith) (omega arith)) (λ t l x. x .high (omega arith) (omega arith)))
+    same-then s
+    (same-expiry (planned .ends) (λ j l m x. x .high l (omega arith)) _ r (λ x. x .low (omega arith) (omega arith))
+    (λ x. x .low (omega arith) (omega arith)) (λ t l x. x .high (omega arith) (omega arith)))
 
 rx-turn :
     (k : ℕ) (a : List ℕ) (r : ℕ) → r < 256
@@ -169,7 +179,7 @@ rx-turn k a r h =
     let f : txMask (inTable r) ≡ rxMask r = omega arith in
     let other : (v : ℕ) → byteAt (set a (rxTimer r) v) (rxReload r) ≡ byteAt a (rxReload r) =
     λ v. getD-set-other a (rxTimer r) (rxReload r) v 0 (λ e. omega arith) in
-    rw (e, f, other) (turn-parted (λ x. expiredArea x r) a (rxTimer r) (byteAt a (rxReload r)) (noCommonBit k (byteAt a (rxMask r))))
+    rw (e, f, other) (turn-parted (λ x. rxExpiry x r) a (rxTimer r) (byteAt a (rxReload r)) (noCommonBit k (byteAt a (rxMask r))))
 
 holds-fell : (k : ℕ) (a : List ℕ) (r : ℕ) → r < 256 → Positions a → Positions (fell k a (inTable r))
 unfolding fell
@@ -208,9 +218,9 @@ turn-report k a r h =
     let f : txMask (inTable r) ≡ rxMask r = omega arith in
     rw (e, f) (report-parted (noCommonBit k (byteAt a (rxMask r))) (byteAt a (rxTimer r)) _)
 
-report-fell : (k : ℕ) (a : List ℕ) (u r : ℕ) → u < 256 → stepReport 1 (fell k a (inTable u)) r ≡ stepReport 1 a r
+report-fell : (k : ℕ) (a : List ℕ) (u r : ℕ) → u < 256 → r < 256 → stepReport 1 (fell k a (inTable u)) r ≡ stepReport 1 a r
 unfolding fell stepReport pick
-report-fell k a u r h = report-set a r (txTimer (inTable u)) _ (omega arith)
+report-fell k a u r h l = report-apart (txTimer (inTable u)) _ (omega arith) (omega arith) a r l
 
 overwritten : (c : Bool) (xs : List ℕ) (p v w : ℕ) → pick c (set (set xs p v) p w) (set xs p v) ≡ set xs p (pick c w v)
 unfolding pick
@@ -235,7 +245,7 @@ module _ (m : List ℕ) (j : ℕ) where
       rw (
         reports-fell k n u a report (omega arith) l p,
         marked-fell (rx-turns k) m j n u a (omega arith) l p,
-        report-fell k (eachMarked (rxStep 1) m j n a) u (j + n) l,
+        report-fell k (eachMarked (rxStep 1) m j n a) u (j + n) l (omega arith),
       )
 
 reports-parted :
@@ -260,7 +270,7 @@ reports-parted k m j (suc n) a report h p e =
       report-last,
       marked-fell w m j n u low (omega arith) (omega arith) q,
       area-last,
-      report-fell k handled u u (omega arith),
+      report-fell k handled u u (omega arith) (omega arith),
       overwritten (eqb (byteAt m n) 1) (reportedFrom k j n a report) u (byteAt m n) (stepReport 1 handled u),
     ) (ap (set (reportedFrom k j n a report) u) (rw (mark-turn w m j n a (omega arith) p e) (sym (turn-report k handled u (omega arith)))))
 

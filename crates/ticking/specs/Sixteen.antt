@@ -11,7 +11,7 @@ use Rattle.clock.specs.Counter.{noCommonBit}
 use Rattle.clock.specs.Timer.{lowered}
 use Rattle.area.specs.Layout.{txReload, rxReload, txTimer, rxTimer, txMask}
 use Rattle.area.specs.Queue.{scheduled}
-use Rattle.ticking.specs.Tick.{expiredArea, expiredReport, rxTick, rxReport}
+use Rattle.ticking.specs.Tick.{rxExpiry, expiryReport, rxTick, rxReport}
 
 -- a change at each of the n numbers from j on, in their order
 unfoldable pub each : (List ℕ → ℕ → List ℕ) → ℕ → ℕ → List ℕ → List ℕ
@@ -62,11 +62,11 @@ txStep count a t =
 unfoldable pub rxStep : ℕ → List ℕ → ℕ → List ℕ
 rxStep count a r =
     pick (eqb count 1)
-    (expiredArea (set a (rxTimer r) (lowered (byteAt a (rxReload r)) count)) r)
+    (rxExpiry (set a (rxTimer r) (lowered (byteAt a (rxReload r)) count)) r)
     (set a (rxTimer r) (lowered (byteAt a (rxReload r)) count))
 
 unfoldable pub stepReport : ℕ → List ℕ → ℕ → ℕ
-stepReport count a r = pick (eqb count 1) (expiredReport a r) 0
+stepReport count a r = pick (eqb count 1) (expiryReport a r) 0
 
 -- ---- the report of a part of the Rx timers
 

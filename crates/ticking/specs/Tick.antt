@@ -1,15 +1,17 @@
 -- "Tick. .. The counter moves on last. .. Tx timers go first, in number order: expiry reloads and schedules. Rx timers follow, in number order."
-use Prim.Native.Nat.{ℕ, zero, suc}
+use Prim.Native.Nat.{ℕ, zero, suc, _%_}
+use mathlib.Core.Bool.{Bool}
 use mathlib.Core.List.{List}
 use lib.Dec.{leb, eqb}
 use lib.ListN.{length, set}
 use Rattle.base.specs.Pick.{pick}
 use Rattle.base.specs.Numbers.{byteAt}
+use Rattle.records.specs.Nodes.{isLin}
 use Rattle.clock.specs.Counter.{counterNext, noCommonBit}
 use Rattle.clock.specs.Timer.{lowered}
 use Rattle.area.specs.Layout.{counterByte, txReload, rxReload, txTimer, rxTimer, long, txMask, rxMask}
-use Rattle.area.specs.Layout.{marked, counter, order, txCount, rxCount, rxFrame, claims}
-use Rattle.area.specs.Queue.{scheduled}
+use Rattle.area.specs.Layout.{marked, counter, order, typeOn, txCount, rxCount, rxFrame, claims}
+use Rattle.area.specs.Queue.{scheduled, requested}
 use Rattle.area.specs.Claims.{expired, allDone}
 use Rattle.answers.specs.declared.Refusal.the-variants.{NotOpen, ShortReport}
 use Rattle.answers.specs.declared.Ticked.{Ticked}
@@ -45,18 +47,30 @@ longLowered a r = set a (long r) (lowered (rxFrame a r .long) (byteAt a (long r)
 unfoldable pub expiredArea : List ℕ → ℕ → List ℕ
 expiredArea a r = longLowered (allDone (order a) (expired r) (claims a r) a) r
 
--- "0 nothing, 1 short, 2 long"
+-- "1 short, 2 long"
 unfoldable pub expiredReport : List ℕ → ℕ → ℕ
 expiredReport a r = pick (eqb (byteAt a (long r)) 1) 2 1
+
+-- whether Rx frame r is one of a LIN node
+unfoldable pub rxOnLin : List ℕ → ℕ → Bool
+rxOnLin a r = isLin (typeOn a (rxFrame a r .node % 16))
+
+-- on a LIN node "expiry queues a request, once while it waits; bit and long counter stay" (document 02, Ticket 2)
+unfoldable pub rxExpiry : List ℕ → ℕ → List ℕ
+rxExpiry a r = pick (rxOnLin a r) (requested a r) (expiredArea a r)
+
+-- "0 nothing, 1 short, 2 long"; of a request: "its report byte 0" (document 02, Ticket 2)
+unfoldable pub expiryReport : List ℕ → ℕ → ℕ
+expiryReport a r = pick (rxOnLin a r) 0 (expiredReport a r)
 
 unfoldable pub rxTick : ℕ → List ℕ → ℕ → List ℕ
 rxTick k a r =
     pick (noCommonBit k (byteAt a (rxMask r)))
-    (pick (eqb (byteAt a (rxTimer r)) 1) (expiredArea (timed a (rxReload r) (rxTimer r)) r) (timed a (rxReload r) (rxTimer r)))
+    (pick (eqb (byteAt a (rxTimer r)) 1) (rxExpiry (timed a (rxReload r) (rxTimer r)) r) (timed a (rxReload r) (rxTimer r)))
     a
 
 unfoldable pub rxReport : ℕ → List ℕ → ℕ → ℕ
-rxReport k a r = pick (noCommonBit k (byteAt a (rxMask r))) (pick (eqb (byteAt a (rxTimer r)) 1) (expiredReport a r) 0) 0
+rxReport k a r = pick (noCommonBit k (byteAt a (rxMask r))) (pick (eqb (byteAt a (rxTimer r)) 1) (expiryReport a r) 0) 0
 
 unfoldable pub rxTicks : ℕ → ℕ → List ℕ → List ℕ
 rxTicks k zero a = a

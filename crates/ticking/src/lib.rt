@@ -1,5 +1,5 @@
 // The tick: Tx timers first, then Rx timers with the report, and last the counter.
-mod expiry;
+pub mod expiry;
 mod rx;
 pub mod tick;
 mod timer;

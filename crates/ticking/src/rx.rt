@@ -1,5 +1,5 @@
 // The Rx timers, with the report.
-use crate::expiry::expire;
+use crate::expiry::expiry;
 use crate::timer::any;
 use crate::timer::lower_timers;
 use area::layout::rx_mask;
@@ -94,7 +94,7 @@ fn rx_step(area: &mut [u8], r: RxNumber, count: u8) -> u8
     let s = clock::timer::step_timer(area[rx_reload(r)], count);
     area[rx_timer(r)] = s.count;
     if s.expired {
-        return expire(area, r);
+        return expiry(area, r);
     }
     0
 }

@@ -4,9 +4,10 @@ use std::collections::BTreeSet;
 use std::mem;
 
 use second::bits::Order;
-use second::gateway::{Answer, Taken};
+use second::gateway::Answer;
 use second::plan::Plan;
 use second::refusal::Refusal;
+use second::taken::TakenFrame;
 
 use crate::ages::{stale, Ages, Fix};
 use crate::long_counters::passing_by;
@@ -83,10 +84,15 @@ impl<'p> AgeRows<'p> {
         self.ages.tick();
     }
 
-    pub fn take(&mut self, tally: &mut Tally, taken: &Taken) {
+    pub fn take(&mut self, tally: &mut Tally, taken: &TakenFrame) {
         let mut payload = [0; 8];
         payload[..taken.size].copy_from_slice(&taken.payload);
         let fixes = self.ages.take(taken.tx_frame, payload);
+        let (of_lin, fixes): (Vec<Fix>, Vec<Fix>) =
+            fixes.into_iter().partition(|fix| fix.is_on_lin);
+        for fix in &of_lin {
+            of_a_lin_source(tally, fix);
+        }
         for fix in &fixes {
             match (fix.ticks, fix.failure_bit) {
                 (None, Some(false)) => self.never_accepted(tally, fix),
@@ -171,6 +177,19 @@ impl Seen {
                 tally.met_pair(at_the_bound, usize::from(prescaler), usize::from(reload));
             }
         }
+    }
+}
+
+/// A fix of a LIN source, of which nothing is said.
+fn of_a_lin_source(tally: &mut Tally, fix: &Fix) {
+    let (Some(ticks), Some(bit)) = (fix.ticks, fix.failure_bit) else {
+        return;
+    };
+    match (bit, ticks >= fix.bound()) {
+        (false, false) => tally.met("LIN source, bit 0 before r p ticks"),
+        (false, true) if fix.row.reload > 0 => tally.met("LIN source, bit 0 at r p ticks or more"),
+        (true, false) => tally.met("LIN source, bit 1 before r p ticks"),
+        _ => {}
     }
 }
 

@@ -28,6 +28,8 @@ struct Acceptance {
 pub struct Fix<'p> {
     pub number: usize,
     pub row: &'p RxFrame,
+    /// The sentence is of CAN sources.
+    pub is_on_lin: bool,
     /// The unrefused ticks since the last acceptance; none if there was none.
     pub ticks: Option<u64>,
     /// The failure bit, if it is enabled and stands in this frame.
@@ -79,6 +81,7 @@ impl<'p> Ages<'p> {
             fixes.push(Fix {
                 number,
                 row,
+                is_on_lin: self.plan.is_on_lin(row),
                 ticks: acceptance.map(|a| self.ticks - a.ticks),
                 failure_bit: failure_bit.map(|(_, at)| bits::get(self.plan.order, &payload, at)),
                 stale: acceptance.and_then(|a| stale(self.plan, row, &a.data, tx_number, &payload)),
@@ -124,7 +127,7 @@ impl Fix<'_> {
     /// How the fix breaks the sentence, if it does.
     pub fn broken(&self) -> Option<String> {
         let ticks = self.ticks?;
-        if self.failure_bit != Some(false) || self.row.reload == 0 {
+        if self.is_on_lin || self.failure_bit != Some(false) || self.row.reload == 0 {
             return None;
         }
         if ticks >= self.bound() {

@@ -1,11 +1,13 @@
 //! The command line.
 
+use crate::shapes::CASES;
+
 pub const USAGE: &str = "\
 usage: compare [--cases N] [--seed S] [--jobs J] [--partial] -- COMMAND [ARGS..]
        compare --case-seed X -- COMMAND [ARGS..]
        compare --dump X
 
-  --cases N      how many cases (1000)
+  --cases N      how many cases (2000)
   --seed S       the seed of the run (1)
   --jobs J       how many cases at a time (2)
   --partial      a row of the table may stay at 0
@@ -27,7 +29,7 @@ pub struct Args {
 impl Args {
     pub fn parse(words: impl IntoIterator<Item = String>) -> Result<Args, String> {
         let mut args = Args {
-            cases: 1000,
+            cases: CASES,
             seed: 1,
             jobs: 2,
             partial: false,

@@ -1,5 +1,8 @@
 //! Event streams for a plan, biased to hit its rows and its timers.
 
+use second::bench::handed_on;
+use second::lin::enhanced_checksum;
+
 use crate::good;
 use crate::rng::Rng;
 use crate::spec::Plan;
@@ -48,6 +51,28 @@ impl<'p> Events<'p> {
         self.bytes.extend(data);
     }
 
+    /// A LIN response.
+    pub fn response(&mut self, node: u8, id: u16, length: u8, data: [u8; 8], checksum: u8) {
+        let [high, low] = id.to_be_bytes();
+        self.bytes.extend([20, node, high, low, length]);
+        self.bytes.extend(data);
+        self.bytes.push(checksum);
+    }
+
+    pub fn no_response(&mut self, node: u8, id: u16) {
+        let [high, low] = id.to_be_bytes();
+        self.bytes.extend([21, node, high, low]);
+    }
+
+    /// A reception, or a response with its right checksum, as the node's type
+    /// wants it.
+    pub fn received(&mut self, node: u8, id: u16, length: u8, data: [u8; 8]) {
+        match self.plan.is_lin(node) {
+            true => self.response(node, id, length, data, right_checksum(id, length, &data)),
+            false => self.reception(node, id, length, data),
+        }
+    }
+
     pub fn ticks(&mut self, count: usize) {
         self.bytes.resize(self.bytes.len() + count, 17);
     }
@@ -80,6 +105,9 @@ impl<'p> Events<'p> {
             return self.miss(rng);
         }
         let row = rng.below(self.plan.rx.len());
+        if self.plan.is_lin(self.plan.rx[row].node) && rng.once_in(4) {
+            return self.silence_or_wrong_checksum(rng, row);
+        }
         let size = self.plan.rx[row].size;
         let length = match rng.below(12) {
             0 => 8,
@@ -89,7 +117,7 @@ impl<'p> Events<'p> {
             _ => size,
         };
         let data = self.data_for(rng, row);
-        self.reception(self.plan.rx[row].node, self.plan.rx[row].id, length, data);
+        self.received(self.plan.rx[row].node, self.plan.rx[row].id, length, data);
     }
 
     /// A reception that the row accepts: of the row's size, or longer.
@@ -101,13 +129,22 @@ impl<'p> Events<'p> {
             _ => rx.size,
         };
         let data = self.data_for(rng, row);
-        self.reception(rx.node, rx.id, length, data);
+        self.received(rx.node, rx.id, length, data);
     }
 
     /// A reception of the row's size with the data sent to it before.
     pub fn repeat(&mut self, row: usize) {
         let rx = &self.plan.rx[row];
-        self.reception(rx.node, rx.id, rx.size, self.last_data[row]);
+        self.received(rx.node, rx.id, rx.size, self.last_data[row]);
+    }
+
+    /// For a row on a LIN node: no response, or one with any checksum.
+    fn silence_or_wrong_checksum(&mut self, rng: &mut Rng, row: usize) {
+        let rx = &self.plan.rx[row];
+        match rng.once_in(2) {
+            true => self.no_response(rx.node, rx.id),
+            false => self.response(rx.node, rx.id, rx.size, rng.payload(), rng.byte()),
+        }
     }
 
     /// The same data as before, one bit of it changed, or new data.
@@ -146,7 +183,13 @@ impl<'p> Events<'p> {
             8..=10 => (node, id) = self.stranger(rng),
             _ => length = rng.pick(&[9, 10, 11, 12, 128, 255]),
         }
-        self.reception(node, id, length, rng.payload());
+        let data = rng.payload();
+        // Each call on either type of node.
+        match self.plan.lin > 0 && rng.once_in(2) {
+            true if rng.once_in(2) => self.no_response(node, id),
+            true => self.response(node, id, length, data, right_checksum(id, length, &data)),
+            false => self.reception(node, id, length, data),
+        }
     }
 
     /// A node and an ID that none of its rows has, each run of such IDs as
@@ -169,11 +212,19 @@ impl<'p> Events<'p> {
     /// Takes on every node until nothing waits there.
     pub fn drain(&mut self) {
         for node in 0..self.plan.nodes {
-            let frames = self.plan.tx.iter();
-            let frames = frames.filter(|tx| usize::from(tx.node) == node).count();
-            for _ in 0..=frames {
-                self.take(node as u8);
-            }
+            self.drain_node(node as u8);
+        }
+    }
+
+    /// One take for each frame and each request of the node, and one more.
+    pub fn drain_node(&mut self, node: u8) {
+        let frames = self.plan.tx.iter().filter(|tx| tx.node == node).count();
+        let requests = match self.plan.is_lin(node) {
+            true => self.plan.rx.iter().filter(|rx| rx.node == node).count(),
+            false => 0,
+        };
+        for _ in 0..=frames + requests {
+            self.take(node);
         }
     }
 
@@ -184,6 +235,11 @@ impl<'p> Events<'p> {
         self.ticks(count);
         self.drain();
     }
+}
+
+/// The checksum of the bytes that a response of this length hands on.
+pub fn right_checksum(id: u16, length: u8, data: &[u8; 8]) -> u8 {
+    enhanced_checksum(id, &handed_on(length, data))
 }
 
 /// An ordinary stream: some events of each kind, then everything is shown.

@@ -12,6 +12,8 @@ pub type Keys = BTreeSet<(u8, u16)>;
 #[derive(Clone, Copy, Debug)]
 pub struct Measure {
     pub nodes: usize,
+    /// How many of the nodes are LIN nodes.
+    pub lin: usize,
     pub tx: usize,
     pub rx: usize,
     /// At most so many signals in a frame.
@@ -92,19 +94,46 @@ pub fn payload_of_size(rng: &mut Rng, size: u8) -> [u8; 8] {
     payload
 }
 
-fn frame_size(rng: &mut Rng) -> u8 {
+/// None in most plans, else any number of them.
+pub fn some_lin(rng: &mut Rng, nodes: usize) -> usize {
+    match nodes > 0 && rng.once_in(4) {
+        true => rng.from_to(1, nodes),
+        false => 0,
+    }
+}
+
+impl Measure {
+    fn is_lin(&self, node: u8) -> bool {
+        usize::from(node) >= self.nodes - self.lin
+    }
+}
+
+/// An ID of a LIN node: at the ends, or anywhere.
+fn lin_id(rng: &mut Rng) -> u16 {
+    let any = rng.below(60) as u16;
+    rng.pick(&[0, 59, any, any, any, any])
+}
+
+/// Ticket 2: "sizes 1 to 8" on a LIN node.
+fn frame_size(rng: &mut Rng, is_lin: bool) -> u8 {
     match rng.below(8) {
+        0 if is_lin => 1,
         0 => 0,
         1 | 2 => 8,
         _ => rng.from_to(1, 8) as u8,
     }
 }
 
-fn tx_frame(rng: &mut Rng, nodes: usize) -> Tx {
-    let size = frame_size(rng);
+fn tx_frame(rng: &mut Rng, measure: Measure) -> Tx {
+    let node = rng.below(measure.nodes) as u8;
+    let is_lin = measure.is_lin(node);
+    let size = frame_size(rng, is_lin);
     Tx {
-        node: rng.below(nodes) as u8,
-        id: rng.below(2048) as u16,
+        node,
+        id: match is_lin {
+            true => lin_id(rng),
+            false => rng.below(2048) as u16,
+        },
         size,
         prescaler: prescaler(rng),
         reload: timer_value(rng),
@@ -115,7 +144,7 @@ fn tx_frame(rng: &mut Rng, nodes: usize) -> Tx {
 }
 
 /// Rising (node, ID) keys: IDs near each other, at the ends, or anywhere.
-pub fn keys(rng: &mut Rng, nodes: usize, count: usize) -> Keys {
+pub fn keys(rng: &mut Rng, nodes: usize, lin: usize, count: usize) -> Keys {
     let mut keys = Keys::new();
     let base = rng.below(2048);
     let style = rng.below(4);
@@ -130,17 +159,21 @@ pub fn keys(rng: &mut Rng, nodes: usize, count: usize) -> Keys {
             }
             _ => (base + 256 * rng.below(8) + rng.below(count)) % 2048,
         };
-        keys.insert((node, id as u16));
+        let id = match usize::from(node) >= nodes - lin {
+            true => lin_id(rng),
+            false => id as u16,
+        };
+        keys.insert((node, id));
     }
     keys
 }
 
-fn rx_frame(rng: &mut Rng, node: u8, id: u16) -> Rx {
+fn rx_frame(rng: &mut Rng, node: u8, id: u16, is_lin: bool) -> Rx {
     let any_count = rng.below(16) as u8;
     Rx {
         node,
         id,
-        size: frame_size(rng),
+        size: frame_size(rng, is_lin),
         prescaler: prescaler(rng),
         reload: timer_value(rng),
         timer: timer_value(rng),
@@ -172,7 +205,7 @@ pub fn plan(rng: &mut Rng, mut measure: Measure) -> Plan {
         measure.tx = 0;
         measure.rx = 0;
     }
-    let keys = keys(rng, measure.nodes, measure.rx);
+    let keys = keys(rng, measure.nodes, measure.lin, measure.rx);
     plan_with_rows(rng, measure, keys)
 }
 
@@ -182,14 +215,13 @@ pub fn plan_with_rows(rng: &mut Rng, measure: Measure, keys: Keys) -> Plan {
     let mut plan = Plan {
         order: rng.below(2) as u8,
         nodes: measure.nodes,
+        lin: measure.lin,
         ..Plan::default()
     };
-    plan.tx = (0..measure.tx)
-        .map(|_| tx_frame(rng, measure.nodes))
-        .collect();
+    plan.tx = (0..measure.tx).map(|_| tx_frame(rng, measure)).collect();
     let mut owners = Owners::new(measure.tx);
     for (node, id) in keys {
-        let mut rx = rx_frame(rng, node, id);
+        let mut rx = rx_frame(rng, node, id, measure.is_lin(node));
         let signals = match rx.size {
             0 => 0,
             _ => rng.from_to(0, measure.signals),
@@ -240,8 +272,10 @@ pub fn add_destination(rng: &mut Rng, txs: &[Tx], owners: &mut Owners, rx: &mut 
 
 /// A small good plan of some size in every table.
 pub fn small_plan(rng: &mut Rng) -> Plan {
+    let nodes = rng.from_to(1, 4);
     let measure = Measure {
-        nodes: rng.from_to(1, 4),
+        nodes,
+        lin: some_lin(rng, nodes),
         tx: rng.from_to(1, 6),
         rx: rng.from_to(1, 6),
         signals: 3,
@@ -254,19 +288,47 @@ pub fn small_plan(rng: &mut Rng) -> Plan {
 /// destinations, and a row with an enabled indicator.
 pub fn rich_plan(rng: &mut Rng) -> Plan {
     loop {
-        let measure = Measure {
-            nodes: rng.from_to(2, 4),
-            tx: rng.from_to(2, 6),
-            rx: rng.from_to(2, 6),
-            signals: 4,
-            destinations: 3,
-        };
-        let plan = plan(rng, measure);
-        if watched_rows(&plan).is_empty() || destination_count(&plan) < 2 {
-            continue;
+        let nodes = rng.from_to(2, 4);
+        let lin = some_lin(rng, nodes);
+        let plan = rich_plan_of(rng, nodes, lin);
+        if !watched_rows(&plan).is_empty() && destination_count(&plan) >= 2 {
+            return plan;
         }
-        return plan;
     }
+}
+
+/// The same, and both a CAN and a LIN node, each with a Tx frame and a row; on
+/// the LIN node is one with an enabled indicator.
+pub fn rich_lin_plan(rng: &mut Rng) -> Plan {
+    loop {
+        let nodes = rng.from_to(2, 4);
+        let lin = rng.from_to(1, nodes - 1);
+        let plan = rich_plan_of(rng, nodes, lin);
+        let has_tx = |lin| plan.tx.iter().any(|tx| plan.is_lin(tx.node) == lin);
+        let has_rx = |lin| plan.rx.iter().any(|rx| plan.is_lin(rx.node) == lin);
+        let has_all = [true, false]
+            .into_iter()
+            .all(|lin| has_tx(lin) && has_rx(lin));
+        let watched = watched_rows(&plan).into_iter();
+        let has_watched = watched
+            .map(|row| plan.rx[row].node)
+            .any(|node| plan.is_lin(node));
+        if has_all && has_watched && destination_count(&plan) >= 2 {
+            return plan;
+        }
+    }
+}
+
+fn rich_plan_of(rng: &mut Rng, nodes: usize, lin: usize) -> Plan {
+    let measure = Measure {
+        nodes,
+        lin,
+        tx: rng.from_to(2, 6),
+        rx: rng.from_to(2, 6),
+        signals: 4,
+        destinations: 3,
+    };
+    plan(rng, measure)
 }
 
 /// The IDs that no row of the node has, in runs from a lowest to a highest ID.

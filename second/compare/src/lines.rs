@@ -20,7 +20,9 @@ pub fn too_old(input: &[u8], output: &[u8]) -> Option<String> {
         let (event, after) = read_event(rest)?;
         rest = after;
         match event {
-            Event::Reception { node, id, data, .. } if line == "rx 0" => {
+            Event::Reception { node, id, data, .. } | Event::Response { node, id, data, .. }
+                if line == "rx 0" =>
+            {
                 ages.accept(node, id, data);
             }
             Event::Tick if is_unrefused_tick(line) => ages.tick(),
@@ -49,7 +51,7 @@ fn is_unrefused_tick(line: &str) -> bool {
 }
 
 /// The Tx number and the payload of "`take TX ID SIZE PAYLOAD WAITING`"; zeros
-/// stand past the size.
+/// stand past the size. Of a request there is neither.
 fn taken(line: &str) -> Option<(usize, [u8; 8])> {
     let words: Vec<&str> = line.split(' ').collect();
     let ["take", tx_number, _, _, hex, _] = words[..] else {

@@ -6,15 +6,16 @@
 
 use second::bench::{handed_on, read_event, split_input, Event};
 use second::bits::Order;
-use second::gateway::{Answer, Gateway, Taken};
-use second::parse::{body_length, two_byte_number, DESTINATION, NODE, RX_FRAME, SIGNAL, TX_FRAME};
+use second::gateway::{Answer, Gateway};
 use second::plan::{Plan, Signal};
-use second::refusal::{PlanRefusal, Refusal};
+use second::refusal::Refusal;
+use second::taken::Taken;
 
 use crate::age_rows::AgeRows;
+use crate::lin_rows::LinRows;
 use crate::long_counters::LongCounters;
 use crate::shapes::Case;
-use crate::tally::{made_row, past_row, Tally, COPIED, INPUT_LENGTHS, KINDS, LIMITS, PRESCALERS};
+use crate::tally::{made_row, Tally, COPIED, INPUT_LENGTHS, LIMITS, PRESCALERS};
 
 impl Tally {
     /// Counts what this case meets.
@@ -34,18 +35,6 @@ impl Tally {
                 self.good_plan(gateway.plan());
                 self.events(gateway, events);
             }
-        }
-    }
-
-    fn refused_plan(&mut self, plan: &[u8], refused: PlanRefusal) {
-        self.met(&format!("plan refused {}", refused.refusal.number()));
-        if refused.refusal == Refusal::CountPassed {
-            for (what, limit) in passed(plan, refused.record) {
-                self.met(&past_row(what, limit));
-            }
-        }
-        if let Some(cause) = cause(plan, refused) {
-            self.met(&format!("{}: {cause}", refused.refusal.number()));
         }
     }
 
@@ -81,12 +70,14 @@ impl Tally {
                 self.met(&format!("plans of {limit} {what}"));
             }
         }
+        self.lin_plan(plan);
     }
 
     fn events(&mut self, mut gateway: Gateway, events: &[u8]) {
         let plan = gateway.plan().clone();
         let mut long_counters = LongCounters::new(&plan);
         let mut age_rows = AgeRows::new(&plan);
+        let mut lin_rows = LinRows::new(&plan, &gateway);
         let mut ticks = 0;
         let mut rest = events;
         while !rest.is_empty() {
@@ -104,19 +95,60 @@ impl Tally {
                     length,
                     data,
                 } => {
-                    let answer = self.reception(&mut gateway, node, id, length, &data);
+                    let handed_on = handed_on(length, &data);
+                    let call = |gateway: &mut Gateway| gateway.receive(node, id, &handed_on);
+                    let answer = self.received(&mut gateway, node, id, call);
+                    self.length(length);
+                    self.reception_order(&plan, (node, id), length, answer);
                     long_counters.reception(self, node, id, answer);
                     age_rows.reception(node, id, data, answer);
+                    if let Some(rows) = &mut lin_rows {
+                        rows.received(self, &gateway, event, answer);
+                    }
+                }
+                Event::Response {
+                    node,
+                    id,
+                    length,
+                    data,
+                    checksum,
+                } => {
+                    let handed_on = handed_on(length, &data);
+                    let call =
+                        |gateway: &mut Gateway| gateway.response(node, id, &handed_on, checksum);
+                    let answer = self.received(&mut gateway, node, id, call);
+                    self.response_order(&plan, (node, id), (length, &data, checksum), answer);
+                    long_counters.reception(self, node, id, answer);
+                    age_rows.reception(node, id, data, answer);
+                    if let Some(rows) = &mut lin_rows {
+                        rows.received(self, &gateway, event, answer);
+                    }
+                }
+                Event::NoResponse { node, id } => {
+                    let answer = self.silent(&mut gateway, node, id);
+                    self.no_response_order(&plan, (node, id), answer);
+                    long_counters.silent(self, node, id, answer);
+                    if let Some(rows) = &mut lin_rows {
+                        rows.silent(self, &gateway, (node, id), answer);
+                    }
                 }
                 Event::Tick => {
                     ticks += 1;
                     let report = self.tick(&mut gateway);
-                    long_counters.tick(self, &report);
+                    let requests = match &mut lin_rows {
+                        Some(rows) => rows.tick(self, &gateway),
+                        None => Vec::new(),
+                    };
+                    long_counters.tick(self, &report, &requests);
                     age_rows.tick();
                 }
                 Event::Take { node } => {
-                    if let Some(taken) = self.take(&mut gateway, node) {
-                        age_rows.take(self, &taken);
+                    let taken = self.take(&mut gateway, node);
+                    if let Some(Taken::Frame(frame)) = &taken {
+                        age_rows.take(self, frame);
+                    }
+                    if let (Some(rows), Some(taken)) = (&mut lin_rows, &taken) {
+                        rows.take(self, &gateway, node, taken);
                     }
                 }
             }
@@ -127,31 +159,36 @@ impl Tally {
         }
     }
 
-    fn reception(
-        &mut self,
-        gateway: &mut Gateway,
-        node: u8,
-        id: u16,
-        length: u8,
-        data: &[u8; 8],
-    ) -> Result<Answer, Refusal> {
+    fn length(&mut self, length: u8) {
         match length {
             0..=12 => self.met(&format!("receptions of length {length}")),
             _ => self.met("receptions of length above 12"),
         }
-        let failure_bits = failure_bits(gateway);
-        let waiting = waiting(gateway);
-        let answer = gateway.receive(node, id, &handed_on(length, data));
+    }
+
+    /// A reception or a response, as the call answers it.
+    fn received(
+        &mut self,
+        gateway: &mut Gateway,
+        node: u8,
+        id: u16,
+        call: impl Fn(&mut Gateway) -> Result<Answer, Refusal>,
+    ) -> Result<Answer, Refusal> {
+        let failure_bits_before = failure_bits(gateway);
+        let waiting_before = waiting(gateway);
+        let answer = call(gateway);
         match answer {
             Err(refusal) => self.met(&format!("rx refused {}", refusal.number())),
             Ok(answer) => {
                 self.met(&format!("rx {}", answer.number()));
                 match answer {
-                    Answer::Accepted => self.accepted(gateway, node, id, &failure_bits, &waiting),
+                    Answer::Accepted => {
+                        self.accepted(gateway, node, id, &failure_bits_before, &waiting_before);
+                    }
                     Answer::NoMatchingRow { place } => {
                         self.stranger(gateway.plan(), node, id, place);
                     }
-                    Answer::TooShort => {}
+                    Answer::TooShort | Answer::WrongChecksum => {}
                 }
             }
         }
@@ -163,10 +200,10 @@ impl Tally {
         gateway: &Gateway,
         node: u8,
         id: u16,
-        failure_bits: &[bool],
+        failure_bits_before: &[bool],
         waiting_before: &[bool],
     ) {
-        for (before, now) in failure_bits.iter().zip(self::failure_bits(gateway)) {
+        for (before, now) in failure_bits_before.iter().zip(failure_bits(gateway)) {
             if *before && !now {
                 self.met("failure bit cleared");
             }
@@ -251,7 +288,8 @@ impl Tally {
         match &answer {
             Err(refusal) => self.met(&format!("take refused {}", refusal.number())),
             Ok(None) => self.met("take none"),
-            Ok(Some(taken)) => {
+            Ok(Some(Taken::Request(_))) => self.met("take of a request"),
+            Ok(Some(Taken::Frame(taken))) => {
                 self.met("take of a frame");
                 self.met(&format!("takes of {} bytes", taken.size));
                 if taken.waiting > 100 {
@@ -261,10 +299,20 @@ impl Tally {
         }
         answer.ok().flatten()
     }
+
+    /// Answers what "no response" answers.
+    fn silent(&mut self, gateway: &mut Gateway, node: u8, id: u16) -> Result<u8, Refusal> {
+        let answer = gateway.no_response(node, id);
+        match answer {
+            Err(refusal) => self.met(&format!("silent refused {}", refusal.number())),
+            Ok(answer) => self.met(&format!("silent {answer}")),
+        }
+        answer
+    }
 }
 
 /// The failure bit of each row; false where there is none.
-fn failure_bits(gateway: &Gateway) -> Vec<bool> {
+pub fn failure_bits(gateway: &Gateway) -> Vec<bool> {
     let rows = gateway.plan().rx_frames.iter();
     rows.map(|row| match row.failure_bit() {
         Some((tx_number, position)) => gateway.kept_bit(tx_number, position),
@@ -287,7 +335,7 @@ fn counts(plan: &Plan) -> [usize; 7] {
     let signals = plan.rx_frames.iter().flat_map(|rx| &rx.signals);
     let for_signals: Vec<usize> = signals.map(|signal| signal.destinations.len()).collect();
     [
-        plan.node_count,
+        plan.nodes.len(),
         plan.tx_frames.len(),
         plan.rx_frames.len(),
         in_frames.iter().sum(),
@@ -295,102 +343,4 @@ fn counts(plan: &Plan) -> [usize; 7] {
         for_signals.iter().sum(),
         for_signals.iter().copied().max().unwrap_or(0),
     ]
-}
-
-/// The places of a plan's records up to the one of this number.
-fn places(plan: &[u8], record: usize) -> Vec<usize> {
-    let mut places = Vec::new();
-    let mut place = 0;
-    for _ in 0..=record {
-        places.push(place);
-        let kind = plan.get(place).copied().unwrap_or(0);
-        place += 1 + body_length(kind).unwrap_or(0);
-    }
-    places
-}
-
-/// The limits that a plan passes at the record of this number, counted from
-/// the bytes.
-fn passed(plan: &[u8], record: usize) -> Vec<(&'static str, usize)> {
-    let mut counts = [0; 7];
-    let mut kind = 0;
-    for place in places(plan, record) {
-        kind = plan[place];
-        match kind {
-            NODE => counts[0] += 1,
-            TX_FRAME => counts[1] += 1,
-            RX_FRAME => {
-                counts[2] += 1;
-                counts[4] = 0;
-            }
-            SIGNAL => {
-                counts[3] += 1;
-                counts[4] += 1;
-                counts[6] = 0;
-            }
-            DESTINATION => {
-                counts[5] += 1;
-                counts[6] += 1;
-            }
-            _ => {}
-        }
-    }
-    let of_this_kind: &[usize] = match kind {
-        NODE => &[0],
-        TX_FRAME => &[1],
-        RX_FRAME => &[2],
-        SIGNAL => &[3, 4],
-        _ => &[5, 6],
-    };
-    let passed = of_this_kind.iter().filter(|n| counts[**n] > LIMITS[**n].1);
-    passed.map(|n| LIMITS[*n]).collect()
-}
-
-/// What a plan was refused for, where its number has several causes, seen from
-/// the bytes at the record.
-fn cause(plan: &[u8], refused: PlanRefusal) -> Option<String> {
-    if plan.is_empty() {
-        return Some("empty plan".to_string());
-    }
-    let places = places(plan, refused.record + 1);
-    let bytes = &plan[places[refused.record]..];
-    let next_kind = plan.get(places[refused.record + 1]);
-    let kind = bytes[0];
-    let name = |kind: u8| KINDS[usize::from(kind) - 1];
-    let cause = match (refused.refusal, kind) {
-        (Refusal::PastTheEnd, _) => return Some(format!("{} cut", name(kind))),
-        (Refusal::KindNotHere | Refusal::OutsideRange, _) => {
-            return Some(name(kind).to_string());
-        }
-        (Refusal::PassesData, SIGNAL) => "signal past the data",
-        (Refusal::PassesData, _) => {
-            let number = usize::from(two_byte_number(bytes[1], bytes[2]));
-            let before = places[..refused.record].iter();
-            let tx_frames = before.filter(|place| plan[**place] == TX_FRAME);
-            match number < tx_frames.count() {
-                true => "destination past the data",
-                false => "no such Tx frame",
-            }
-        }
-        (Refusal::TwoOwners, _) => match without_indicator(plan, &places) {
-            true => "failure bit",
-            false => "destination",
-        },
-        (Refusal::BadIndicator, RX_FRAME) if next_kind == Some(&SIGNAL) => "no destination",
-        (Refusal::BadIndicator, RX_FRAME) => "no signal",
-        (Refusal::BadIndicator, _) => "position past the Tx data",
-        _ => return None,
-    };
-    Some(cause.to_string())
-}
-
-/// Whether the plan up to the last but one of these places is good once the
-/// indicator of its last Rx frame is taken away.
-fn without_indicator(plan: &[u8], places: &[usize]) -> bool {
-    let mut plan = plan[..places[places.len() - 1]].to_vec();
-    let is_row = |place: &&usize| plan.get(**place) == Some(&RX_FRAME);
-    if let Some(row) = places.iter().rev().find(is_row) {
-        plan[row + 8] = 0;
-    }
-    Gateway::open(&plan).is_ok()
 }

@@ -5,6 +5,8 @@
 pub struct Plan {
     pub order: u8,
     pub nodes: usize,
+    /// How many of the nodes, the last ones, are LIN nodes.
+    pub lin: usize,
     pub tx: Vec<Tx>,
     pub rx: Vec<Rx>,
 }
@@ -125,6 +127,10 @@ pub fn node_record() -> Record {
     vec![NODE, 0]
 }
 
+pub fn lin_node_record() -> Record {
+    vec![NODE, 1]
+}
+
 pub fn signal_record(position: u8, size: u8) -> Record {
     vec![SIGNAL, position, size]
 }
@@ -135,9 +141,21 @@ pub fn destination_record(tx: u16, position: u8) -> Record {
 }
 
 impl Plan {
+    /// Ticket 2: "LIN nodes follow all CAN nodes."
+    pub fn is_lin(&self, node: u8) -> bool {
+        (self.nodes - self.lin..self.nodes).contains(&usize::from(node))
+    }
+
+    /// The numbers of the rows on LIN nodes.
+    pub fn lin_rows(&self) -> Vec<usize> {
+        let rows = 0..self.rx.len();
+        rows.filter(|row| self.is_lin(self.rx[*row].node)).collect()
+    }
+
     pub fn records(&self) -> Vec<Record> {
         let mut records = vec![head_record(self.order)];
-        records.extend(vec![node_record(); self.nodes]);
+        records.extend(vec![node_record(); self.nodes - self.lin]);
+        records.extend(vec![lin_node_record(); self.lin]);
         records.extend(self.tx.iter().map(Tx::record));
         for rx in &self.rx {
             records.push(rx.record());

@@ -1,15 +1,17 @@
 //! What the cases met: a table of counts, each of which must be above 0, and
 //! of pairs, all of which must be met: the positions and sizes of signals
-//! copied, the places of strangers, and the sources at their oldest.
+//! copied, the places of strangers, the sources at their oldest, and the IDs of
+//! responses.
 
 use std::collections::{BTreeMap, BTreeSet};
 
 use crate::shapes::Shapes;
+use crate::{checksums, lin_orders, lin_plans, lin_rows};
 
 pub struct Tally {
     counts: BTreeMap<String, u64>,
-    /// The pairs of each row that counts pairs: those of `COPIED`, `PLACES` and
-    /// `OLDEST`.
+    /// The pairs of each row that counts pairs: those of `COPIED`, `PLACES`,
+    /// `OLDEST` and `LIN_IDS`.
     pairs: BTreeMap<&'static str, BTreeSet<(usize, usize)>>,
 }
 
@@ -97,6 +99,25 @@ pub const PASSING_BY: [&str; 5] = [
     "rx refused 13",
 ];
 
+/// What comes between two silences of a row on a LIN node and is no restart.
+pub const LIN_PASSING_BY: [&str; 11] = [
+    "a tick",
+    "a request",
+    "rx 0 of another row",
+    "rx 2",
+    "rx 3",
+    "rx refused 12",
+    "rx refused 13",
+    "rx refused 16",
+    "silent of another row",
+    "silent refused 12",
+    "silent refused 16",
+];
+
+/// The row that counts the IDs of accepted responses, each once, and how many
+/// there are.
+pub const LIN_IDS: (&str, u64) = ("IDs of accepted responses, of 60", 60);
+
 /// Reloads whose bound r times p is met to the tick, for each prescaler: both
 /// ends, both sides of where r passes 127 and 10 r and 20 r pass 255, and some
 /// between.
@@ -126,8 +147,17 @@ fn sections() -> Vec<(&'static str, Vec<String>)> {
         ("plans", plans()),
         ("events", events()),
         ("long counters", long_counters()),
+        ("long counters on LIN", lin_long_counters()),
         ("places of strangers", places()),
         ("age of a fix, reload r and prescaler p", ages()),
+        ("LIN: good plans", lin_plans::good_rows()),
+        (
+            "LIN: what a plan was refused for",
+            lin_plans::refused_rows(),
+        ),
+        ("LIN: calls", lin_orders::rows()),
+        ("LIN: checksums", checksums::rows()),
+        ("LIN: requests and frames", lin_rows::rows()),
         (
             "pairs of a position and a size of a signal, of 2080",
             copied(),
@@ -163,17 +193,23 @@ fn causes() -> Vec<String> {
 }
 
 fn event_lines() -> Vec<String> {
-    let mut rows: Vec<String> = (0..=2).map(|answer| format!("rx {answer}")).collect();
+    let mut rows: Vec<String> = (0..=3).map(|answer| format!("rx {answer}")).collect();
     let others = [
         "rx refused 12",
         "rx refused 13",
+        "rx refused 16",
         "tick with report byte 0",
         "tick with report byte 1",
         "tick with report byte 2",
         "tick with an empty report",
         "take none",
         "take of a frame",
+        "take of a request",
         "take refused 12",
+        "silent 1",
+        "silent 2",
+        "silent refused 12",
+        "silent refused 16",
         "input bad alone",
         "input bad as the first event",
         "input bad after events",
@@ -232,6 +268,25 @@ pub fn long_counters() -> Vec<String> {
     rows
 }
 
+/// The same on LIN nodes, where the expiries are those that the driver calls.
+pub fn lin_long_counters() -> Vec<String> {
+    let mut rows = [
+        "restarts of a long counter under way",
+        "long timeouts put off by a restart",
+    ]
+    .map(String::from)
+    .to_vec();
+    rows.extend(LIN_PASSING_BY.map(despite_row));
+    rows.extend([0, 1].map(after_rx_0_row));
+    rows.extend((2..=15).map(after_restart_row));
+    rows.into_iter().map(on_lin_row).collect()
+}
+
+/// The row of a long counter on a LIN node.
+pub fn on_lin_row(row: String) -> String {
+    format!("{row}, LIN")
+}
+
 /// Ticket 4: "how many of that node's rows have a smaller ID".
 pub fn places() -> Vec<String> {
     let mut rows = SIDES.map(String::from).to_vec();
@@ -265,6 +320,9 @@ pub fn ages() -> Vec<String> {
         "never accepted, bit 0 after r p ticks",
         "bit 0, changed by the acceptance, big",
         "bit 0, changed by the acceptance, little",
+        "LIN source, bit 0 before r p ticks",
+        "LIN source, bit 0 at r p ticks or more",
+        "LIN source, bit 1 before r p ticks",
     ];
     rows.extend(others.map(String::from));
     rows.extend(OLDEST.map(|(row, _)| row.to_string()));
@@ -295,11 +353,14 @@ pub fn made_row(shape: &str) -> String {
         Some(("records", what)) if what.ends_with(" cut") => "records: one cut",
         Some(("records", what)) if what.starts_with("kind ") => "records: one inserted",
         Some(("input", what)) if what.starts_with("reception cut") => "input: reception cut",
+        Some(("input", what)) if what.starts_with("response cut") => "input: response cut",
+        Some(("input", what)) if what.starts_with("no response cut") => "input: no response cut",
         Some(("records" | "input", _)) => shape,
         Some(("copies", _)) => "signals of every position and size",
         Some(("restarts", _)) => "receptions between expiries of a long count",
         Some(("places", _)) => "strangers at every place of every node",
         Some(("ages", _)) => "takes around the expiry of a source",
+        Some(("lin", _)) => "LIN nodes, their calls and requests",
         Some(("field", _)) => "a field at or past the end of its range",
         Some(("follower", _)) => "a missing or bad follower",
         Some(("owners", _)) => "bits with two owners, or nearly",
@@ -319,7 +380,7 @@ fn rows() -> Vec<String> {
 fn least_count(row: &str) -> u64 {
     let copied = COPIED.iter().flat_map(|[from, to, _]| [from, to]);
     let copied = copied.map(|side| (*side, PAIRS));
-    let mut all_pairs = copied.chain(PLACES).chain(OLDEST);
+    let mut all_pairs = copied.chain(PLACES).chain(OLDEST).chain([LIN_IDS]);
     let of_row = all_pairs.find(|(name, _)| *name == row);
     of_row.map_or(1, |(_, pairs)| pairs)
 }
@@ -394,8 +455,8 @@ impl Tally {
         }
     }
 
-    /// Counts the pair for a row of `COPIED`, `PLACES` or `OLDEST`, where it
-    /// counts once.
+    /// Counts the pair for a row of `COPIED`, `PLACES`, `OLDEST` or `LIN_IDS`,
+    /// where it counts once.
     pub fn met_pair(&mut self, row: &'static str, one: usize, other: usize) {
         self.pairs.entry(row).or_default().insert((one, other));
     }

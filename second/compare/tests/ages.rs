@@ -42,6 +42,7 @@ fn plan(order: u8, prescaler: u8, reload: u8) -> Plan {
             ..Tx::quiet(0, 256, 2)
         }],
         rx: vec![source(7, 15, prescaler, reload), Rx::quiet(0, 9, 1)],
+        ..Plan::default()
     }
 }
 
@@ -479,5 +480,7 @@ fn bits_that_an_acceptance_changed_are_counted() {
 
 #[test]
 fn a_round_meets_the_rows_of_the_ages_by_its_own_shapes() {
-    assert_met_by("ages: ", &ages());
+    let mut rows = ages();
+    rows.retain(|row| !row.starts_with("LIN source, "));
+    assert_met_by(&["ages: "], &rows);
 }

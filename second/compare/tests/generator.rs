@@ -8,15 +8,15 @@ use std::collections::BTreeSet;
 use common::{assert_met_by, case_of, cases, met_of, once, tally_of, Add, OTHERS};
 use compare::events::Events;
 use compare::rng::Rng;
-use compare::shapes::Shapes;
+use compare::shapes::{Shapes, CASES, MOST_SHAPES};
 use compare::spec::{Destination, Plan, Rx, Signal, Tx};
 use compare::tally::{long_counters, places, Tally, COPIED, PLACES, SIDES};
 
 #[test]
-fn a_thousand_cases_meet_every_row_for_any_seed() {
+fn two_thousand_cases_meet_every_row_for_any_seed() {
     let shapes = Shapes::all();
     for seed in [0, 1, 2, 3, 77, 1_000_003, u64::MAX] {
-        let tally = tally_of(cases(&shapes, seed, 0..1000));
+        let tally = tally_of(cases(&shapes, seed, 0..CASES as usize));
         assert_eq!(tally.never_met(), Vec::<String>::new(), "seed {seed}");
     }
 }
@@ -53,6 +53,7 @@ fn three_destinations() -> Plan {
         nodes: 1,
         tx: vec![Tx::quiet(0, 0, 8)],
         rx: vec![row],
+        ..Plan::default()
     }
 }
 
@@ -81,12 +82,12 @@ fn pairs_count_once_and_where_a_reception_is_accepted() {
 
 #[test]
 fn a_round_meets_the_rows_of_the_long_counters_by_its_own_shapes() {
-    assert_met_by("restarts: ", &long_counters());
+    assert_met_by(&["restarts: "], &long_counters());
 }
 
 #[test]
 fn a_round_meets_the_rows_of_the_places_by_its_own_shapes() {
-    assert_met_by("places: ", &places());
+    assert_met_by(&["places: "], &places());
 }
 
 /// A row of one byte that expires once in so many ticks.
@@ -292,9 +293,10 @@ fn only_strangers_have_places() {
 }
 
 #[test]
-fn every_shape_comes_at_least_twice_in_a_thousand_cases() {
+fn every_shape_comes_at_least_twice_in_two_thousand_cases() {
     let shapes = Shapes::all();
-    assert!(shapes.count() <= 500);
+    assert!(shapes.count() < MOST_SHAPES);
+    assert!(2 * shapes.count() as u64 <= CASES);
     let mut names = BTreeSet::new();
     for index in 0..shapes.count() as u64 {
         names.insert(shapes.case(shapes.case_seed(5, index)).shape);
@@ -333,18 +335,22 @@ fn the_table_counts_what_the_lines_say() {
     let shapes = Shapes::all();
     let mut tally = Tally::new();
     let mut outputs = Vec::new();
-    for index in 0..1000 {
+    for index in 0..CASES {
         let case = shapes.case(shapes.case_seed(4, index));
         tally.observe(&case);
         outputs.push(second::run(&case.input));
     }
-    let mut rows = vec!["plan ok", "take none", "rx 0", "rx 1", "rx 2"];
-    rows.extend(["rx refused 12", "rx refused 13", "take refused 12"]);
+    let mut rows = vec!["plan ok", "take none", "rx 0", "rx 1", "rx 2", "rx 3"];
+    rows.extend(["rx refused 12", "rx refused 13", "rx refused 16"]);
+    rows.extend(["take refused 12", "silent 1", "silent 2"]);
+    rows.extend(["silent refused 12", "silent refused 16"]);
     let refused: Vec<String> = (1..=9).map(|n| format!("plan refused {n}")).collect();
     rows.extend(refused.iter().map(String::as_str));
     for row in rows {
         assert_eq!(tally.count(row), lines_of(&outputs, row), "{row}");
     }
+    let requests = lines_of(&outputs, "take request");
+    assert_eq!(tally.count("take of a request"), requests);
     let of_256 = lines_of(&outputs, "rx 1 256");
     assert_eq!(tally.count("places above 255"), of_256);
     let strangers: u64 = SIDES.iter().map(|row| tally.count(row)).sum();

@@ -1,8 +1,9 @@
 //! The bench program: events in, lines out.
 
-use crate::gateway::{Answer, Gateway, Taken};
+use crate::gateway::{Answer, Gateway};
 use crate::parse::two_byte_number;
 use crate::refusal::Refusal;
+use crate::taken::{Taken, TakenFrame, TakenRequest};
 
 /// "All input is at most 65,536 bytes."
 pub const MOST_INPUT: usize = 65_536;
@@ -23,6 +24,16 @@ pub enum Event {
     Tick,
     /// "18 take (node 1)"
     Take { node: u8 },
+    /// Kind 20, a LIN response: node 1, ID 2, length 1, data 8, checksum 1.
+    Response {
+        node: u8,
+        id: u16,
+        length: u8,
+        data: [u8; 8],
+        checksum: u8,
+    },
+    /// Kind 21, no response: node 1, ID 2.
+    NoResponse { node: u8, id: u16 },
 }
 
 /// The whole program: all of standard input in, all lines out.
@@ -89,29 +100,44 @@ pub fn read_event(bytes: &[u8]) -> Option<(Event, &[u8])> {
         16 => 12,
         17 => 0,
         18 => 1,
+        20 => 13,
+        21 => 3,
         _ => return None,
     };
     let body = bytes.get(1..1 + body_length)?;
     let event = match kind {
-        16 => {
-            let mut data = [0; 8];
-            data.copy_from_slice(&body[4..12]);
-            Event::Reception {
-                node: body[0],
-                id: two_byte_number(body[1], body[2]),
-                length: body[3],
-                data,
-            }
-        }
+        16 => Event::Reception {
+            node: body[0],
+            id: two_byte_number(body[1], body[2]),
+            length: body[3],
+            data: eight_bytes(&body[4..12]),
+        },
         17 => Event::Tick,
-        _ => Event::Take { node: body[0] },
+        18 => Event::Take { node: body[0] },
+        20 => Event::Response {
+            node: body[0],
+            id: two_byte_number(body[1], body[2]),
+            length: body[3],
+            data: eight_bytes(&body[4..12]),
+            checksum: body[12],
+        },
+        _ => Event::NoResponse {
+            node: body[0],
+            id: two_byte_number(body[1], body[2]),
+        },
     };
     Some((event, &bytes[1 + body_length..]))
 }
 
-/// The payload that a reception record hands on: as many data bytes as its
-/// length says. "A length above 8 is handed on as nine zero bytes, so that 13
-/// is met."
+fn eight_bytes(bytes: &[u8]) -> [u8; 8] {
+    let mut data = [0; 8];
+    data.copy_from_slice(bytes);
+    data
+}
+
+/// The payload that a reception or a response hands on: as many data bytes as
+/// its length says. "A length above 8 is handed on as nine zero bytes, so that
+/// 13 is met."
 pub fn handed_on(length: u8, data: &[u8; 8]) -> Vec<u8> {
     if length > 8 {
         return vec![0; 9];
@@ -124,7 +150,7 @@ fn plan_line(gateway: &Gateway) -> String {
     let plan = gateway.plan();
     let tx_count = plan.tx_frames.len();
     let rx_count = plan.rx_frames.len();
-    format!("plan ok {} {tx_count} {rx_count}", plan.node_count)
+    format!("plan ok {} {tx_count} {rx_count}", plan.nodes.len())
 }
 
 /// "Then one line per event".
@@ -147,9 +173,24 @@ fn event_line(gateway: &mut Gateway, event: Event) -> String {
             }
         }
         Event::Take { node } => match gateway.take(node) {
-            Ok(Some(taken)) => take_line(&taken),
+            Ok(Some(Taken::Frame(frame))) => frame_line(&frame),
+            Ok(Some(Taken::Request(request))) => request_line(request),
             Ok(None) => "take none".to_string(),
             Err(refusal) => refused_line("take", refusal),
+        },
+        Event::Response {
+            node,
+            id,
+            length,
+            data,
+            checksum,
+        } => match gateway.response(node, id, &handed_on(length, &data), checksum) {
+            Ok(answer) => rx_line(answer),
+            Err(refusal) => refused_line("rx", refusal),
+        },
+        Event::NoResponse { node, id } => match gateway.no_response(node, id) {
+            Ok(answer) => format!("silent {answer}"),
+            Err(refusal) => refused_line("silent", refusal),
         },
     }
 }
@@ -179,7 +220,7 @@ fn tick_line(report: &[u8]) -> String {
 
 /// "`take TX ID SIZE PAYLOAD WAITING`, numbers decimal, payload lower-case
 /// hex, `-` for size 0."
-fn take_line(taken: &Taken) -> String {
+fn frame_line(taken: &TakenFrame) -> String {
     let mut payload = String::new();
     for byte in &taken.payload {
         payload.push_str(&format!("{byte:02x}"));
@@ -190,5 +231,14 @@ fn take_line(taken: &Taken) -> String {
     format!(
         "take {} {} {} {payload} {}",
         taken.tx_frame, taken.id, taken.size, taken.waiting
+    )
+}
+
+/// Ticket 2: "bench: `take request RX ID SIZE WAITING`". The protected
+/// identifier and the checksum are of the call alone, and ID is the plain one.
+fn request_line(taken: TakenRequest) -> String {
+    format!(
+        "take request {} {} {} {}",
+        taken.rx_frame, taken.id, taken.size, taken.waiting
     )
 }

@@ -1,19 +1,21 @@
-//! The gateway: open, receive, tick, take and fullness.
+//! The gateway: open, receive, tick, take and fullness. The calls for LIN nodes
+//! are in `responses`.
 
 use std::collections::VecDeque;
 
 use crate::bits;
+use crate::lin;
 use crate::parse;
-use crate::plan::Plan;
+use crate::plan::{NodeType, Plan};
 use crate::refusal::{require, PlanRefusal, Refusal};
+use crate::taken::{OnLin, Taken, TakenFrame, TakenRequest};
 
 pub struct Gateway {
     plan: Plan,
     tx_states: Vec<TxState>,
     rx_states: Vec<RxState>,
-    /// "one first-in, first-out queue per node": the numbers of the waiting
-    /// Tx frames, the oldest in front.
-    queues: Vec<VecDeque<usize>>,
+    /// "one first-in, first-out queue per node", the oldest in front.
+    queues: Vec<VecDeque<Waiting>>,
     /// How many ticks there have been, so the number of the coming one.
     tick_number: u64,
 }
@@ -27,6 +29,13 @@ struct TxState {
 struct RxState {
     timer: Timer,
     long_counter: u8,
+}
+
+/// What waits in a queue: a Tx frame, or the request for an Rx frame.
+#[derive(Clone, Copy, Debug, PartialEq, Eq)]
+pub enum Waiting {
+    Frame(usize),
+    Request(usize),
 }
 
 /// "Each timer is one small record of reload and count".
@@ -66,6 +75,8 @@ pub enum Answer {
         place: usize,
     },
     TooShort,
+    /// Of a response.
+    WrongChecksum,
 }
 
 impl Answer {
@@ -74,19 +85,9 @@ impl Answer {
             Answer::Accepted => 0,
             Answer::NoMatchingRow { .. } => 1,
             Answer::TooShort => 2,
+            Answer::WrongChecksum => 3,
         }
     }
-}
-
-/// What a take hands out: "its Tx number, ID, size, how many still wait on
-/// that node, and its payload of that size".
-#[derive(Clone, Debug, PartialEq, Eq)]
-pub struct Taken {
-    pub tx_frame: usize,
-    pub id: u16,
-    pub size: usize,
-    pub waiting: usize,
-    pub payload: Vec<u8>,
 }
 
 impl Gateway {
@@ -115,7 +116,7 @@ impl Gateway {
             });
         }
         Ok(Gateway {
-            queues: vec![VecDeque::new(); plan.node_count],
+            queues: vec![VecDeque::new(); plan.nodes.len()],
             plan,
             tx_states,
             rx_states,
@@ -130,7 +131,23 @@ impl Gateway {
     /// Whether the Tx frame waits in its node's queue.
     pub fn is_waiting(&self, tx_number: usize) -> bool {
         let node = self.plan.tx_frames[tx_number].node;
-        self.queues[usize::from(node)].contains(&tx_number)
+        self.queues[usize::from(node)].contains(&Waiting::Frame(tx_number))
+    }
+
+    /// Whether a request for the Rx frame waits in its node's queue.
+    pub fn is_requested(&self, rx_number: usize) -> bool {
+        let node = self.plan.rx_frames[rx_number].node;
+        self.queues[usize::from(node)].contains(&Waiting::Request(rx_number))
+    }
+
+    /// What waits on a node, the oldest in front.
+    pub fn queue(&self, node: usize) -> &VecDeque<Waiting> {
+        &self.queues[node]
+    }
+
+    /// What an Rx timer holds.
+    pub fn rx_timer(&self, rx_number: usize) -> u8 {
+        self.rx_states[rx_number].timer.count
     }
 
     /// A bit of the kept payload of a Tx frame.
@@ -142,6 +159,8 @@ impl Gateway {
     /// "Reception takes node, ID and payload."
     pub fn receive(&mut self, node: u8, id: u16, payload: &[u8]) -> Result<Answer, Refusal> {
         self.require_node(node)?;
+        // Ticket 2: "the old reception gives 16 on a LIN node, after 12."
+        require(self.is_of_type(node, NodeType::Can), Refusal::NotOfThisNode)?;
         require(payload.len() <= 8, Refusal::PayloadTooLong)?;
 
         // "A frame with no matching row is not processed further: answer 1,
@@ -150,16 +169,25 @@ impl Gateway {
             let place = self.place(node, id);
             return Ok(Answer::NoMatchingRow { place });
         };
-        // "A payload shorter than the row's size: answer 2, nothing changes."
-        let row = self.plan.rx_frames[rx_number].clone();
-        if payload.len() < row.size {
+        if self.is_too_short(rx_number, payload) {
             return Ok(Answer::TooShort);
         }
-
-        // "Then in order: the Rx timer takes its reload value; an enabled
-        // failure bit becomes 0; signals are copied in plan order, each to its
-        // destinations in order."
+        // "the Rx timer takes its reload value"
         self.rx_states[rx_number].timer.reload();
+        self.accept(rx_number, payload);
+        Ok(Answer::Accepted)
+    }
+
+    /// "A payload shorter than the row's size: answer 2, nothing changes."
+    pub(crate) fn is_too_short(&self, rx_number: usize, payload: &[u8]) -> bool {
+        payload.len() < self.plan.rx_frames[rx_number].size
+    }
+
+    /// "Then in order: the Rx timer takes its reload value; an enabled failure
+    /// bit becomes 0; signals are copied in plan order, each to its
+    /// destinations in order." All but the timer, which is a CAN row's.
+    pub(crate) fn accept(&mut self, rx_number: usize, payload: &[u8]) {
+        let row = self.plan.rx_frames[rx_number].clone();
         // Ticket 1: "The long counter must start again at every accepted
         // reception, so that a long timeout means that many expiries in a row."
         self.rx_states[rx_number].long_counter = row.long_count;
@@ -183,12 +211,11 @@ impl Gateway {
                 }
             }
         }
-        Ok(Answer::Accepted)
     }
 
     /// "Lookup searches that node's rows only". At most one row matches, since
     /// rows rise, so the way of searching cannot be seen from outside.
-    fn find_row(&self, node: u8, id: u16) -> Option<usize> {
+    pub(crate) fn find_row(&self, node: u8, id: u16) -> Option<usize> {
         let rows = &self.plan.rx_frames;
         rows.iter().position(|row| row.node == node && row.id == id)
     }
@@ -215,8 +242,18 @@ impl Gateway {
             return;
         }
         let node = self.plan.tx_frames[tx_number].node;
-        self.queues[usize::from(node)].push_back(tx_number);
+        self.queues[usize::from(node)].push_back(Waiting::Frame(tx_number));
         self.tx_states[tx_number].timer.reload();
+    }
+
+    /// Ticket 2: "expiry queues a request, once while it waits; bit and long
+    /// counter stay."
+    fn request(&mut self, rx_number: usize) {
+        if self.is_requested(rx_number) {
+            return;
+        }
+        let node = self.plan.rx_frames[rx_number].node;
+        self.queues[usize::from(node)].push_back(Waiting::Request(rx_number));
     }
 
     /// "The report gets one byte per Rx frame in order: 0 nothing, 1 short,
@@ -237,7 +274,7 @@ impl Gateway {
             let handled = self.is_handled(self.plan.rx_frames[rx_number].prescaler);
             *report_byte = 0;
             if handled && self.rx_states[rx_number].timer.handle() {
-                *report_byte = self.time_out(rx_number);
+                *report_byte = self.expiry(rx_number);
             }
         }
         // "The counter moves on last."
@@ -245,10 +282,20 @@ impl Gateway {
         Ok(())
     }
 
+    /// The expiry of an Rx timer. Answers the report byte. Ticket 2: "a request
+    /// is none, its report byte 0."
+    fn expiry(&mut self, rx_number: usize) -> u8 {
+        if self.plan.is_on_lin(&self.plan.rx_frames[rx_number]) {
+            self.request(rx_number);
+            return 0;
+        }
+        self.time_out(rx_number)
+    }
+
     /// "expiry sets the enabled failure bit and lowers the long counter if it
     /// is above 0; falling to 0 is a long timeout and the counter takes the
     /// long count again." Answers the report byte.
-    fn time_out(&mut self, rx_number: usize) -> u8 {
+    pub(crate) fn time_out(&mut self, rx_number: usize) -> u8 {
         self.put_failure_bit(rx_number, true);
         let long_counter = &mut self.rx_states[rx_number].long_counter;
         if *long_counter > 0 {
@@ -276,22 +323,49 @@ impl Gateway {
     }
 
     /// "Take on a node: "none", or the oldest waiting frame, which then waits
-    /// no more". The payload is the kept one at this moment.
+    /// no more", or the oldest waiting request. The payload is the kept one at
+    /// this moment.
     pub fn take(&mut self, node: u8) -> Result<Option<Taken>, Refusal> {
         self.require_node(node)?;
         let queue = &mut self.queues[usize::from(node)];
-        let Some(tx_number) = queue.pop_front() else {
+        let Some(oldest) = queue.pop_front() else {
             return Ok(None);
         };
+        let waiting = queue.len();
+        Ok(Some(match oldest {
+            Waiting::Frame(tx_number) => Taken::Frame(self.taken_frame(tx_number, waiting)),
+            Waiting::Request(rx_number) => Taken::Request(self.taken_request(rx_number, waiting)),
+        }))
+    }
+
+    fn taken_frame(&self, tx_number: usize, waiting: usize) -> TakenFrame {
         let tx_frame = &self.plan.tx_frames[tx_number];
-        let payload = &self.tx_states[tx_number].payload;
-        Ok(Some(Taken {
+        let payload = self.tx_states[tx_number].payload[..tx_frame.size].to_vec();
+        let on_lin = self
+            .is_of_type(tx_frame.node, NodeType::Lin)
+            .then(|| OnLin {
+                protected_identifier: lin::protected_identifier(tx_frame.id),
+                checksum: lin::enhanced_checksum(tx_frame.id, &payload),
+            });
+        TakenFrame {
             tx_frame: tx_number,
             id: tx_frame.id,
             size: tx_frame.size,
-            waiting: queue.len(),
-            payload: payload[..tx_frame.size].to_vec(),
-        }))
+            waiting,
+            payload,
+            on_lin,
+        }
+    }
+
+    fn taken_request(&self, rx_number: usize, waiting: usize) -> TakenRequest {
+        let rx_frame = &self.plan.rx_frames[rx_number];
+        TakenRequest {
+            rx_frame: rx_number,
+            id: rx_frame.id,
+            size: rx_frame.size,
+            waiting,
+            protected_identifier: lin::protected_identifier(rx_frame.id),
+        }
     }
 
     /// "Fullness of a Tx frame answers how many of its bits have an owner,
@@ -304,8 +378,12 @@ impl Gateway {
     }
 
     /// "no such node"
-    fn require_node(&self, node: u8) -> Result<(), Refusal> {
-        let exists = usize::from(node) < self.plan.node_count;
+    pub(crate) fn require_node(&self, node: u8) -> Result<(), Refusal> {
+        let exists = self.plan.node_type(node).is_some();
         require(exists, Refusal::NoSuchNode)
+    }
+
+    pub(crate) fn is_of_type(&self, node: u8, node_type: NodeType) -> bool {
+        self.plan.node_type(node) == Some(node_type)
     }
 }

@@ -7,8 +7,11 @@
 pub mod bench;
 pub mod bits;
 pub mod gateway;
+pub mod lin;
 pub mod parse;
 pub mod plan;
 pub mod refusal;
+mod responses;
+pub mod taken;
 
 pub use bench::run;

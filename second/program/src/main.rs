@@ -1,12 +1,12 @@
-//! The second program: the bench program of document 01, with Tickets 1 and 4
-//! of document 02.
+//! The second program: the bench program of document 01, with Tickets 1, 2 and
+//! 4 of document 02.
 //!
-//! How it was kept apart: this package was written from these documents alone,
-//! by someone who had not read the Rattle sources, nor their design, their
-//! specifications or their tests. Where the documents leave something open,
-//! the reading taken is listed in NOTES.md. If the two programs differ, that
-//! is a question about the documents first; neither is changed to look like
-//! the other.
+//! How it was kept apart: this package was written from these documents and the
+//! team's decisions on what they leave open, without the Rattle sources, their
+//! design or their specifications; README.md of the folder above says more. The
+//! readings taken are listed in NOTES.md. If the two programs differ, that is a
+//! question about the documents first; neither is changed to look like the
+//! other.
 //!
 //! It is written to be obvious, not fast: plain structs and vectors, one small
 //! module per topic, and comments that quote the sentence they state.

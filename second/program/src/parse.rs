@@ -1,7 +1,8 @@
 //! Reading and checking a plan.
 
 use crate::bits::Order;
-use crate::plan::{Destination, Plan, RxFrame, Signal, TxFrame};
+use crate::lin;
+use crate::plan::{Destination, NodeType, Plan, RxFrame, Signal, TxFrame};
 use crate::refusal::{require, PlanRefusal, Refusal};
 
 pub const HEAD: u8 = 1;
@@ -75,7 +76,7 @@ impl SoFar {
         SoFar {
             plan: Plan {
                 order: Order::Big,
-                node_count: 0,
+                nodes: Vec::new(),
                 tx_frames: Vec::new(),
                 rx_frames: Vec::new(),
             },
@@ -121,8 +122,8 @@ impl SoFar {
         };
         let length = 1 + body_length;
         require(rest.len() >= length, Refusal::PastTheEnd)?;
-        require(self.may_stand_here(kind), Refusal::KindNotHere)?;
         let body = &rest[1..length];
+        require(self.may_stand_here(kind, body), Refusal::KindNotHere)?;
         match kind {
             HEAD => self.read_head(body)?,
             NODE => self.read_node(body)?,
@@ -141,18 +142,24 @@ impl SoFar {
     /// "One head first, then nodes, then Tx frames, then Rx frames, each
     /// followed by its signals, each followed by its destinations." "None is a
     /// lawful count of each; a head alone is a plan."
-    fn may_stand_here(&self, kind: u8) -> bool {
+    fn may_stand_here(&self, kind: u8, body: &[u8]) -> bool {
         let Some(before) = self.kind_before else {
             return kind == HEAD;
         };
         match kind {
             HEAD => false,
-            NODE => matches!(before, HEAD | NODE),
+            NODE => matches!(before, HEAD | NODE) && !self.is_can_after_lin(body),
             TX_FRAME => matches!(before, HEAD | NODE | TX_FRAME),
             RX_FRAME => true,
             SIGNAL => matches!(before, RX_FRAME | SIGNAL | DESTINATION),
             _ => matches!(before, SIGNAL | DESTINATION),
         }
+    }
+
+    /// Ticket 2: "LIN nodes follow all CAN nodes"; "3 for a CAN node after a LIN
+    /// node". A type that does not exist is no CAN node.
+    fn is_can_after_lin(&self, body: &[u8]) -> bool {
+        node_type(body[0]) == Some(NodeType::Can) && self.plan.nodes.contains(&NodeType::Lin)
     }
 
     /// "order: 0 big, 1 little"
@@ -167,9 +174,9 @@ impl SoFar {
 
     /// "type: 0 CAN"
     fn read_node(&mut self, body: &[u8]) -> Result<(), Refusal> {
-        require(self.plan.node_count < MOST_NODES, Refusal::CountPassed)?;
-        require(body[0] == 0, Refusal::OutsideRange)?;
-        self.plan.node_count += 1;
+        require(self.plan.nodes.len() < MOST_NODES, Refusal::CountPassed)?;
+        let node_type = node_type(body[0]).ok_or(Refusal::OutsideRange)?;
+        self.plan.nodes.push(node_type);
         Ok(())
     }
 
@@ -315,12 +322,25 @@ impl SoFar {
         Ok(())
     }
 
-    /// "node below the node count; ID 0–2047; size 0–8"
+    /// "node below the node count; ID 0–2047; size 0–8". Ticket 2: "IDs there
+    /// run 0 to 59, sizes 1 to 8."
     fn require_frame_ranges(&self, node: u8, id: u16, size: usize) -> Result<(), Refusal> {
-        let node_exists = usize::from(node) < self.plan.node_count;
-        require(node_exists, Refusal::OutsideRange)?;
-        require(id <= 2047, Refusal::OutsideRange)?;
-        require(size <= 8, Refusal::OutsideRange)
+        let (greatest_id, least_size) = match self.plan.node_type(node) {
+            None => return Err(Refusal::OutsideRange),
+            Some(NodeType::Can) => (2047, 0),
+            Some(NodeType::Lin) => (lin::GREATEST_ID, lin::LEAST_SIZE),
+        };
+        require(id <= greatest_id, Refusal::OutsideRange)?;
+        require((least_size..=8).contains(&size), Refusal::OutsideRange)
+    }
+}
+
+/// "type: 0 CAN". Ticket 2: "Node type 1 is a LIN node".
+fn node_type(number: u8) -> Option<NodeType> {
+    match number {
+        0 => Some(NodeType::Can),
+        1 => Some(NodeType::Lin),
+        _ => None,
     }
 }
 

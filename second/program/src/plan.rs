@@ -7,9 +7,16 @@ use crate::bits::Order;
 #[derive(Clone, Debug)]
 pub struct Plan {
     pub order: Order,
-    pub node_count: usize,
+    pub nodes: Vec<NodeType>,
     pub tx_frames: Vec<TxFrame>,
     pub rx_frames: Vec<RxFrame>,
+}
+
+/// "type: 0 CAN". Ticket 2: "Node type 1 is a LIN node and we are its master".
+#[derive(Clone, Copy, Debug, PartialEq, Eq)]
+pub enum NodeType {
+    Can,
+    Lin,
 }
 
 #[derive(Clone, Debug)]
@@ -53,6 +60,17 @@ pub struct Signal {
 pub struct Destination {
     pub tx_frame: usize,
     pub position: usize,
+}
+
+impl Plan {
+    /// The type of the node, if it exists.
+    pub fn node_type(&self, node: u8) -> Option<NodeType> {
+        self.nodes.get(usize::from(node)).copied()
+    }
+
+    pub fn is_on_lin(&self, row: &RxFrame) -> bool {
+        self.node_type(row.node) == Some(NodeType::Lin)
+    }
 }
 
 impl RxFrame {

@@ -1,4 +1,4 @@
-//! The refusals, with document 01's numbers.
+//! The refusals, with the numbers of documents 01 and 02.
 //!
 //! Refusals 10 and 11 speak of the lent area. This program keeps its state in
 //! plain structs and has no area, so they cannot be met here.
@@ -34,6 +34,9 @@ pub enum Refusal {
     ReportTooShort = 14,
     /// "no such Tx frame"
     NoSuchTxFrame = 15,
+    /// Ticket 2: "16 where the node is not LIN or has no such Rx frame"; "the
+    /// old reception gives 16 on a LIN node"
+    NotOfThisNode = 16,
 }
 
 impl Refusal {

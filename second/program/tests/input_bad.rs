@@ -2,7 +2,9 @@
 
 mod common;
 
-use common::{input, join, lines, reception, take, BIG, NODE, TICK};
+use common::{
+    input, join, lines, no_response, reception, response, take, BIG, LIN_NODE, NODE, TICK,
+};
 use second::run;
 
 fn one_node() -> Vec<u8> {
@@ -31,18 +33,19 @@ fn input_over_65_536_bytes() {
 
 #[test]
 fn cut_event_records() {
-    let whole = reception(0, 1, &[]);
-    for cut in 1..whole.len() {
-        let events = join(&[take(0), whole[..cut].to_vec()]);
-        let expected = ["plan ok 1 0 0", "take none", "input bad"];
-        assert_eq!(lines(&one_node(), &events), expected);
+    for whole in [reception(0, 1, &[]), response(0, 1, &[]), no_response(0, 1)] {
+        for cut in 1..whole.len() {
+            let events = join(&[take(0), whole[..cut].to_vec()]);
+            let expected = ["plan ok 1 0 0", "take none", "input bad"];
+            assert_eq!(lines(&one_node(), &events), expected);
+        }
     }
     assert_eq!(lines(&one_node(), &[18]), ["plan ok 1 0 0", "input bad"]);
 }
 
 #[test]
 fn unknown_event_records_end_it() {
-    for kind in [0, 1, 15, 19, 255] {
+    for kind in [0, 1, 15, 19, 22, 255] {
         let events = join(&[TICK, [kind], TICK]);
         let expected = ["plan ok 1 0 0", "tick", "input bad"];
         assert_eq!(lines(&one_node(), &events), expected);
@@ -84,7 +87,7 @@ fn random_bytes_never_panic() {
             .map(|_| bytes.next() as u8 % 8)
             .collect();
         let events: Vec<u8> = (0..bytes.below(60))
-            .map(|_| bytes.next() as u8 % 20)
+            .map(|_| bytes.next() as u8 % 24)
             .collect();
         assert_well_formed(&run(&input(&plan, &events)));
         let any: Vec<u8> = (0..bytes.below(80)).map(|_| bytes.next() as u8).collect();
@@ -96,20 +99,27 @@ fn random_bytes_never_panic() {
 fn damaged_inputs_never_panic() {
     let plan = join(&[
         one_node(),
+        LIN_NODE.to_vec(),
         common::tx(0, 3, 2, 1, 2, 1, 3, [0; 8]),
+        common::tx(1, 3, 2, 1, 2, 1, 3, [0; 8]),
         common::rx(0, 4, 2, 1, 2, 1, 1, 15, 2),
         common::signal(1, 9),
         common::destination(0, 2),
+        common::rx(1, 4, 2, 1, 2, 1, 1, 15, 2),
+        common::signal(1, 9),
+        common::destination(1, 2),
     ]);
     let events = join(&[
         reception(0, 4, &[0xA5, 0x5A]),
+        response(1, 4, &[0xA5, 0x5A]),
         TICK.to_vec(),
         take(0),
+        no_response(1, 4),
         TICK.to_vec(),
-        take(0),
+        take(1),
     ]);
     let good = input(&plan, &events);
-    assert!(run(&good).starts_with("plan ok 1 1 1\nrx 0\n"));
+    assert!(run(&good).starts_with("plan ok 2 2 2\nrx 0\nrx 0\n"));
     let mut bytes = Bytes(0x0D0C_0001_0D0C_0001);
     for place in 0..good.len() {
         for value in 0..=255 {

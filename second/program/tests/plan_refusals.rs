@@ -105,7 +105,7 @@ fn refusal_4_for_each_count() {
 #[test]
 fn refusal_5_for_each_field() {
     assert_eq!(plan_line(&[1, 2]), "plan refused 5 0");
-    assert_eq!(plan_line(&[1, 0, 2, 1]), "plan refused 5 1");
+    assert_eq!(plan_line(&[1, 0, 2, 2]), "plan refused 5 1");
 
     let tx_line = |record: Vec<u8>| plan_line(&join(&[BIG.to_vec(), NODE.to_vec(), record]));
     let refused = "plan refused 5 2";

@@ -9,6 +9,6 @@ unfolding refusalNumber
 refusal-number-spec =
     tie.close
     (tie.spec (λ c. search needs) (λ c κs. search needs) (λ c. search needs) (λ c. search needs) (λ c. search needs) (λ c. search needs)
-    (λ c. search needs) (λ c. search needs) (λ c. rw (c .before .before .why .given .1) (c .reason-number .ensures))
+    (λ c. search needs) (λ c. search needs) (λ c. search needs) (λ c. rw (c .before .before .why .given .1) (c .reason-number .ensures))
     (λ c. rw (c .enum-told .given .1)) (λ c. rw (c .enum-told2 .given .1)) (λ c. rw (c .enum-told3 .given .1))
-    (λ c. rw (c .enum-told4 .given .1)) (λ c. rw (c .enum-told5 .given .1)) (λ c. rw (c .enum-told6 .given .1)))
+    (λ c. rw (c .enum-told4 .given .1)) (λ c. rw (c .enum-told5 .given .1)) (λ c. rw (c .enum-told6 .given .1)) (λ c. rw (c .enum-told7 .given .1)))

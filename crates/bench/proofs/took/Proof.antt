@@ -8,7 +8,7 @@ use lib.ListN.{length, length-take}
 use Rattle.base.proofs.Picks.{both}
 use Rattle.area.specs.Layout.{areaLength}
 use Rattle.answers.specs.declared.Taken.{Taken}
-use Rattle.answers.specs.declared.Taken.the-variants.{Nothing, Frame, Refused}
+use Rattle.answers.specs.declared.Taken.the-variants.{Nothing, Frame, Request, Refused}
 use Rattle.taking.specs.Taken.{keptPart, takenPayload}
 use Rattle.output.specs.Output.{takenText}
 use Rattle.bench.proofs.took.Statement.{statement}
@@ -19,7 +19,8 @@ short : (a : List ℕ) (t : Taken) → length (takenPayload a t) ≤ 256
 unfolding takenPayload keptPart
 short a Nothing = omega arith
 short a (Refused why) = omega arith
-short a (Frame t id size waiting) =
+short a (Request request) = omega arith
+short a (Frame frame) =
     both (λ (p : List ℕ). length p ≤ 256) (leb areaLength (length a)) _ _
     (simp length-take (omega arith)) (omega arith)
 

@@ -1,4 +1,4 @@
--- `taking::take` meets its contract: the tests pick the case, and the frame is read before the queue gives it up.
+-- `taking::take` meets its contract: the tests pick the case, and what leaves is read before the queue gives it up.
 use mathlib.Core.Path.{sym, _∙_}
 use native.Mathlib.Nat.{pos-of-ne-zero}
 use borrow.Author.Tests.{ltb-true, ltb-false, not-true, not-false}
@@ -53,33 +53,27 @@ oldest-of-requires c κs =
     let ends = c3 .ends-at .ensures in
     (ends .2, ends .4, c9 .is-marked .ensures .1 (not-false _ (c8 .if1 .left)))
 
-tx-id-requires : tie.Need-tx-id-requires
-tx-id-requires c κs =
-    let c10 = c .before .before .before .before .before .before .before .before .before .before in
-    (c .before .oldest-of .ensures .1, c10 .before .is-marked .ensures .1 (not-false _ (c10 .if1 .left)))
-
-tx-size-requires : tie.Need-tx-size-requires
-tx-size-requires c κs =
-    let c3 = c .before .before .before in
-    let c12 = c3 .before .before .before .before .before .before .before .before .before in
-    (c3 .oldest-of .ensures .1, c12 .before .is-marked .ensures .1 (not-false _ (c12 .if1 .left)))
+answer-of-requires : tie.Need-answer-of-requires
+answer-of-requires c κs =
+    let c2 = c .before .before in
+    let c11 = c2 .before .before .before .before .before .before .before .before .before in
+    (c2 .oldest-of .ensures .1, c11 .before .is-marked .ensures .1 (not-false _ (c11 .if1 .left)))
 
 dequeue-requires : tie.Need-dequeue-requires
 unfolding oldest
 dequeue-requires c κs =
-    let c5 = c .before .before .before .before .before in
-    let c7 = c5 .before .before in
-    let c9 = c7 .before .before in
-    let c11 = c9 .before .before in
-    let c12 = c11 .before in
-    let c14 = c12 .before .before in
-    let ends = c9 .ends-at .ensures in (
-      c12 .has-node .ensures .1 (not-false _ (c11 .if2 .left)),
-      c14 .before .is-marked .ensures .1 (not-false _ (c14 .if1 .left)),
+    let c4 = c .before .before .before .before in
+    let c6 = c4 .before .before in
+    let c8 = c6 .before .before in
+    let c10 = c8 .before .before in
+    let c13 = c10 .before .before .before in
+    let ends = c8 .ends-at .ensures in (
+      c10 .before .has-node .ensures .1 (not-false _ (c10 .if2 .left)),
+      c13 .before .is-marked .ensures .1 (not-false _ (c13 .if1 .left)),
       ends .0,
-      rw (ends .0) at (c5 .oldest-of .ensures .0),
-      c5 .oldest-of .ensures .1,
-      pos-of-ne-zero (c7 .if3 .left),
+      rw (ends .0) at (c4 .oldest-of .ensures .0),
+      c4 .oldest-of .ensures .1,
+      pos-of-ne-zero (c6 .if3 .left),
       ends .2,
     )
 
@@ -87,24 +81,22 @@ returns-4 : tie.Need-returns-4
 unfolding oldest
 returns-4 c =
     let c4 = c .before .before .before .before in
-    let c6 = c4 .before .before in
-    let c10 = c6 .before .before .before .before in
-    let c12 = c10 .before .before in
-    let c14 = c12 .before .before in
+    let c7 = c4 .before .before .before in
+    let c9 = c7 .before .before in
+    let c11 = c9 .before .before in
+    let c13 = c11 .before .before in
+    let c14 = c13 .before in
     let c16 = c14 .before .before in
     let c17 = c16 .before in
-    let c19 = c17 .before .before in
-    let c20 = c19 .before in
-    let v = c20 .before .before .before .args in
-    let ends = c14 .ends-at .ensures .0 in
-    leaves (now (v .area)) (v .node) (sym (c20 .is-marked .ensures .0) ∙ not-false _ (c19 .if1 .left))
-    (ltb-true (v .node) (nodeCount (now (v .area))) (sym (c17 .has-node .ensures .0) ∙ not-false _ (c16 .if2 .left))) _ _ _ _ _ ends
-    (rw ends at (c10 .oldest-of .ensures .0)) (c6 .before .before .tx-id .ensures) (rw (c6 .tx-size .ensures) at (c .before .in-width .ensures .0))
-    (c12 .if3 .left) (c4 .dequeue .ensures)
+    let c20 = c17 .before .before .before in
+    let v = c20 .args in
+    let ends = c11 .ends-at .ensures .0 in
+    leaves (now (v .area)) (v .node) (sym (c17 .is-marked .ensures .0) ∙ not-false _ (c16 .if1 .left))
+    (ltb-true (v .node) (nodeCount (now (v .area))) (sym (c14 .has-node .ensures .0) ∙ not-false _ (c13 .if2 .left))) _ _ _ _ ends
+    (rw ends at (c7 .oldest-of .ensures .0)) (c4 .answer-of .ensures) (c9 .if3 .left) (c .before .before .dequeue .ensures)
 
 pub take-spec : {M : Type 1} → statement M
 take-spec =
     tie.close
     (tie.spec (λ c κs. search needs) (λ c. search needs) returns has-node-requires (λ c. search needs) returns-2 ends-at-requires (λ c. search needs)
-    returns-3 oldest-of-requires tx-id-requires tx-size-requires dequeue-requires (λ c κs. search needs) (λ c. search needs) (λ c. search needs)
-    returns-4)
+    returns-3 oldest-of-requires (λ c. search needs) answer-of-requires dequeue-requires (λ c. search needs) returns-4)

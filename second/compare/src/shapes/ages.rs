@@ -135,7 +135,7 @@ fn plan(rng: &mut Rng, order: u8, sources: &[Source]) -> Option<Plan> {
         ..Plan::default()
     };
     let mut owners = Owners::new(frames);
-    let keys = good::keys(rng, frames, sources.len());
+    let keys = good::keys(rng, frames, 0, sources.len());
     for (number, ((node, id), source)) in keys.into_iter().zip(sources).enumerate() {
         let own_frame = number % frames;
         let next_frame = (number + 1) % frames;

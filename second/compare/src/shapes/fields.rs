@@ -10,7 +10,7 @@ use crate::spec::{self, places_of, Record, DESTINATION, HEAD, NODE, RX, SIGNAL, 
 /// outside its range or at the far end.
 const FIELDS: [(&str, u8, usize, &[u8]); 15] = [
     ("order", HEAD, 1, &[2, 255]),
-    ("type", NODE, 1, &[1, 255]),
+    ("type", NODE, 1, &[2, 255]),
     ("Tx size", TX, 4, &[9, 64, 255]),
     ("Tx prescaler", TX, 5, &[0, 3, 4, 5, 9, 11, 19, 21, 255]),
     ("flags", TX, 8, &[4, 255]),

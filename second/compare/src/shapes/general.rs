@@ -27,6 +27,12 @@ pub fn shapes() -> Vec<Shape> {
         Shape::new("waiting frames", waiting_frames),
         Shape::new("empty tables", empty_tables),
         Shape::new("middling plan", middling),
+        Shape::new("LIN nodes", |rng| {
+            let plan = good::rich_lin_plan(rng);
+            let count = rng.from_to(20, 80);
+            plan.input(&ordinary(rng, &plan, count))
+        }),
+        Shape::new("LIN nodes, busy", lin_nodes),
     ]
 }
 
@@ -55,10 +61,36 @@ fn timeouts(rng: &mut Rng) -> Vec<u8> {
     with_mix(rng, &plan, 60, mix)
 }
 
+/// Requests, frames and responses on LIN nodes beside CAN nodes.
+fn lin_nodes(rng: &mut Rng) -> Vec<u8> {
+    let mut plan = good::rich_lin_plan(rng);
+    for rx in &mut plan.rx {
+        rx.prescaler = rng.pick(&[1, 1, 2]);
+        rx.reload = rng.from_to(1, 4) as u8;
+        rx.timer = rng.from_to(1, 3) as u8;
+        rx.long_count = rng.from_to(0, 3) as u8;
+    }
+    for tx in &mut plan.tx {
+        tx.reload = rng.from_to(1, 4) as u8;
+        tx.timer = rng.from_to(1, 3) as u8;
+        tx.prescaler = rng.pick(&[1, 1, 2]);
+    }
+    let mix = Mix {
+        hits: 8,
+        misses: 2,
+        ticks: 6,
+        burst: 3,
+        takes: 8,
+    };
+    with_mix(rng, &plan, 80, mix)
+}
+
 /// Few rows and many receptions, so that changes and repeats come often.
 fn busy_row(rng: &mut Rng) -> Vec<u8> {
+    let nodes = rng.from_to(1, 2);
     let measure = Measure {
-        nodes: rng.from_to(1, 2),
+        nodes,
+        lin: good::some_lin(rng, nodes),
         tx: rng.from_to(1, 3),
         rx: rng.from_to(1, 2),
         signals: 4,
@@ -124,8 +156,10 @@ fn periodic(rng: &mut Rng) -> Vec<u8> {
 
 /// Many rows near each other on a few nodes: the lookup.
 fn many_rows(rng: &mut Rng) -> Vec<u8> {
+    let nodes = rng.from_to(1, 5);
     let measure = Measure {
-        nodes: rng.from_to(1, 5),
+        nodes,
+        lin: good::some_lin(rng, nodes),
         tx: rng.from_to(1, 4),
         rx: rng.from_to(10, 60),
         signals: 1,
@@ -205,8 +239,10 @@ fn waiting_frames(rng: &mut Rng) -> Vec<u8> {
 
 /// None is a lawful count of each.
 fn empty_tables(rng: &mut Rng) -> Vec<u8> {
+    let nodes = rng.below(3);
     let measure = Measure {
-        nodes: rng.below(3),
+        nodes,
+        lin: good::some_lin(rng, nodes),
         tx: rng.below(2) * rng.below(4),
         rx: rng.below(2) * rng.below(4),
         signals: rng.below(2),
@@ -218,8 +254,10 @@ fn empty_tables(rng: &mut Rng) -> Vec<u8> {
 
 /// A plan of some tens in every table.
 fn middling(rng: &mut Rng) -> Vec<u8> {
+    let nodes = rng.from_to(2, 16);
     let measure = Measure {
-        nodes: rng.from_to(2, 16),
+        nodes,
+        lin: good::some_lin(rng, nodes),
         tx: rng.from_to(10, 60),
         rx: rng.from_to(10, 60),
         signals: 6,

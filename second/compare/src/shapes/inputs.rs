@@ -7,6 +7,13 @@ use crate::good;
 use crate::rng::Rng;
 use crate::spec::{self, input_with_length, Plan};
 
+/// Events with a body: name, kind and length.
+const EVENTS: [(&str, u8, usize); 3] = [
+    ("reception", 16, 13),
+    ("response", 20, 14),
+    ("no response", 21, 4),
+];
+
 pub fn shapes() -> Vec<Shape> {
     let mut shapes = vec![
         Shape::new("input: none", |_| Vec::new()),
@@ -73,27 +80,28 @@ pub fn shapes() -> Vec<Shape> {
         }),
         Shape::new("input: unknown event", |rng| {
             with_tail(rng, |rng| {
-                let mut tail = vec![rng.pick(&[0, 1, 6, 15, 19, 20, 128, 255])];
+                let mut tail = vec![rng.pick(&[0, 1, 6, 15, 19, 22, 128, 255])];
                 tail.extend([17, 17]);
                 tail
             })
         }),
         Shape::new("input: unknown event first", |rng| {
             let plan = good::small_plan(rng);
-            plan.input(&[rng.pick(&[0, 15, 19, 255]), 17, 17])
+            plan.input(&[rng.pick(&[0, 15, 19, 22, 255]), 17, 17])
         }),
         Shape::new("input: an event byte changed", |rng| {
             let plan = good::rich_plan(rng);
             let mut events = ordinary(rng, &plan, 30);
             let place = rng.below(events.len());
             let any = rng.byte();
-            events[place] = rng.pick(&[0, 16, 17, 18, 19, any]);
+            events[place] = rng.pick(&[0, 16, 17, 18, 19, 20, 21, any]);
             plan.input(&events)
         }),
         Shape::new("input: random events", |rng| {
             let plan = good::rich_plan(rng);
             let count = rng.below(60);
-            let events: Vec<u8> = (0..count).map(|_| rng.from_to(16, 18) as u8).collect();
+            let kinds = [16, 17, 18, 20, 21];
+            let events: Vec<u8> = (0..count).map(|_| rng.pick(&kinds)).collect();
             plan.input(&events)
         }),
         Shape::new("input: random bytes", |rng| {
@@ -121,11 +129,13 @@ pub fn shapes() -> Vec<Shape> {
             input
         }),
     ];
-    for length in 1..=12 {
-        let name = format!("input: reception cut after {length} bytes");
-        shapes.push(Shape::new(&name, move |rng| {
-            with_tail(rng, |_| vec![16; length])
-        }));
+    for (what, kind, whole) in EVENTS {
+        for length in 1..whole {
+            let name = format!("input: {what} cut after {length} bytes");
+            shapes.push(Shape::new(&name, move |rng| {
+                with_tail(rng, |_| vec![kind; length])
+            }));
+        }
     }
     for length in [65_535, 65_536, 65_537] {
         let name = format!("input: {length} bytes");

@@ -12,6 +12,10 @@ mod followers;
 mod general;
 mod inputs;
 mod limits;
+mod lin_calls;
+mod lin_plans;
+mod lin_requests;
+mod lin_sources;
 mod order_of_tests;
 mod owners;
 mod places;
@@ -45,6 +49,12 @@ pub struct Case {
     pub input: Vec<u8>,
 }
 
+/// There are fewer shapes than this, whatever tickets are to come.
+pub const MOST_SHAPES: usize = 1000;
+
+/// So many cases meet each shape at least twice.
+pub const CASES: u64 = 2 * MOST_SHAPES as u64;
+
 /// All shapes: after every second special one comes an ordinary one.
 pub struct Shapes {
     shapes: Vec<Shape>,
@@ -65,6 +75,10 @@ impl Shapes {
         special.extend(order_of_tests::shapes());
         special.extend(records::shapes());
         special.extend(inputs::shapes());
+        special.extend(lin_calls::shapes());
+        special.extend(lin_requests::shapes());
+        special.extend(lin_sources::shapes());
+        special.extend(lin_plans::shapes());
 
         let mut ordinary = Vec::new();
         let mut shapes = Vec::new();

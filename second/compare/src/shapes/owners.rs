@@ -140,6 +140,7 @@ fn pair(rng: &mut Rng, common: usize) -> Vec<u8> {
     let plan = Plan {
         order: rng.below(2) as u8,
         nodes: 1,
+        lin: 0,
         tx: vec![tx],
         rx: vec![rx],
     };

@@ -92,6 +92,7 @@ fn with_gaps(rng: &mut Rng, count: usize) -> impl Iterator<Item = u16> {
 fn places(rng: &mut Rng, nodes: usize, keys: Keys) -> Vec<u8> {
     let measure = Measure {
         nodes,
+        lin: 0,
         tx: rng.from_to(nodes, 4 * nodes),
         rx: keys.len(),
         signals: 2,

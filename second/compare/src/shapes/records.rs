@@ -126,28 +126,28 @@ pub fn shapes() -> Vec<Shape> {
     shapes
 }
 
-fn one_byte(rng: &mut Rng, records: &mut [Record]) {
+pub fn one_byte(rng: &mut Rng, records: &mut [Record]) {
     let record = rng.below(records.len());
     let place = rng.below(records[record].len());
     records[record][place] = rng.byte();
 }
 
-fn one_bit(rng: &mut Rng, records: &mut [Record]) {
+pub fn one_bit(rng: &mut Rng, records: &mut [Record]) {
     let record = rng.below(records.len());
     let place = rng.below(records[record].len());
     records[record][place] ^= 1 << rng.below(8);
 }
 
-fn drop_one(rng: &mut Rng, records: &mut Vec<Record>) {
+pub fn drop_one(rng: &mut Rng, records: &mut Vec<Record>) {
     records.remove(rng.below(records.len()));
 }
 
-fn double_one(rng: &mut Rng, records: &mut Vec<Record>) {
+pub fn double_one(rng: &mut Rng, records: &mut Vec<Record>) {
     let place = rng.below(records.len());
     records.insert(place, records[place].clone());
 }
 
-fn swap_two(rng: &mut Rng, records: &mut [Record]) {
+pub fn swap_two(rng: &mut Rng, records: &mut [Record]) {
     let one = rng.below(records.len());
     let other = rng.below(records.len());
     records.swap(one, other);

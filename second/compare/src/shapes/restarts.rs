@@ -39,6 +39,7 @@ pub fn shapes() -> Vec<Shape> {
 fn restarts_plan(rng: &mut Rng) -> Plan {
     let measure = Measure {
         nodes: rng.from_to(2, 4),
+        lin: 0,
         tx: rng.from_to(2, 6),
         rx: rng.from_to(4, 8),
         signals: 3,

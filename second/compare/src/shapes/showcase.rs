@@ -64,6 +64,7 @@ fn showcase_plan(rng: &mut Rng, order: u8) -> Plan {
     Plan {
         order,
         nodes: 2,
+        lin: 0,
         tx: vec![on_reception, on_change, slow, quick],
         rx: vec![row, other],
     }

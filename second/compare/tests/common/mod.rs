@@ -1,4 +1,5 @@
 //! Cases made by hand, and what the table counts of them.
+#![allow(dead_code)]
 
 use compare::events::Events;
 use compare::shapes::{Case, Shapes};
@@ -33,12 +34,12 @@ pub fn case_of(plan: &Plan, events: &Events) -> Case {
     }
 }
 
-/// In each round the shapes whose names begin so meet these rows without the
-/// others.
-pub fn assert_met_by(start: &str, rows: &[String]) {
+/// In each round the shapes whose names begin in one of these ways meet these
+/// rows without the others.
+pub fn assert_met_by(starts: &[&str], rows: &[String]) {
     let shapes = Shapes::all();
     let names: Vec<&str> = shapes.names().collect();
-    let is_own = |index: &usize| names[*index].starts_with(start);
+    let is_own = |index: &usize| starts.iter().any(|start| names[*index].starts_with(start));
     for seed in 0..100 {
         let round = (0..shapes.count()).filter(is_own);
         let mut never_met = tally_of(cases(&shapes, seed, round)).never_met();

@@ -29,8 +29,8 @@ pub const AGES: &[Mistake] = &[
         &[(
             "gateway.rs",
             RELOAD,
-            "        let more = u8::from(row.reload > 0);
-             self.rx_states[rx_number].timer.count = row.reload.saturating_add(more);\n",
+            "        let timer = &mut self.rx_states[rx_number].timer;
+             timer.count = timer.reload.saturating_add(u8::from(timer.reload > 0));\n",
         )],
     ),
     of_the_age(
@@ -109,27 +109,20 @@ pub const AGES: &[Mistake] = &[
     // The failure bits.
     of_the_age(
         "a take clears the failure bits of its frame",
-        &[
-            (
-                "gateway.rs",
-                "        Ok(Some(Taken {
-            tx_frame: tx_number,",
-                "        let taken = Taken {
-            tx_frame: tx_number,",
-            ),
-            (
-                "gateway.rs",
-                "        }))\n",
-                "        };
-             for row in 0..self.plan.rx_frames.len() {
-                 let failure_bit = self.plan.rx_frames[row].failure_bit();
-                 if failure_bit.is_some_and(|(frame, _)| frame == tx_number) {
-                     self.put_failure_bit(row, false);
+        &[(
+            "gateway.rs",
+            "            Waiting::Frame(tx_number) => Taken::Frame(self.taken_frame(tx_number, waiting)),\n",
+            "            Waiting::Frame(tx_number) => {
+                 let taken = Taken::Frame(self.taken_frame(tx_number, waiting));
+                 for row in 0..self.plan.rx_frames.len() {
+                     let failure_bit = self.plan.rx_frames[row].failure_bit();
+                     if failure_bit.is_some_and(|(frame, _)| frame == tx_number) {
+                         self.put_failure_bit(row, false);
+                     }
                  }
-             }
-             Ok(Some(taken))\n",
-            ),
-        ],
+                 taken
+             }\n",
+        )],
     ),
     of_the_age(
         "a too short reception clears the failure bit",
@@ -205,7 +198,7 @@ pub const AGES: &[Mistake] = &[
             "        let failed = row.failure_bit().is_some_and(|(frame, at)| self.kept_bit(frame, at));
              self.put_failure_bit(rx_number, false);
              if failed {
-                 return Ok(Answer::Accepted);
+                 return;
              }\n",
         )],
     ),

@@ -9,7 +9,7 @@ pub struct Mistake {
     pub breaks_the_age: bool,
 }
 
-const fn mistake(name: &'static str, changes: Changes) -> Mistake {
+pub const fn mistake(name: &'static str, changes: Changes) -> Mistake {
     Mistake {
         name,
         changes,
@@ -78,14 +78,14 @@ pub const MISTAKES: &[Mistake] = &[
             ),
             (
                 "gateway.rs",
-                ".push_back(tx_number);\n",
-                ".push_back(tx_number);
+                ".push_back(Waiting::Frame(tx_number));\n",
+                ".push_back(Waiting::Frame(tx_number));
                  self.tx_states[tx_number].queued = self.tx_states[tx_number].payload;\n",
             ),
             (
                 "gateway.rs",
-                "        let payload = &self.tx_states[tx_number].payload;\n        Ok(Some",
-                "        let payload = &self.tx_states[tx_number].queued;\n        Ok(Some",
+                "let payload = self.tx_states[tx_number].payload[..tx_frame.size].to_vec();",
+                "let payload = self.tx_states[tx_number].queued[..tx_frame.size].to_vec();",
             ),
         ],
     ),
@@ -121,6 +121,11 @@ pub const MISTAKES: &[Mistake] = &[
                 "gateway.rs",
                 "self.tick_number.is_multiple_of(u64::from(prescaler))",
                 "prescaler > 0",
+            ),
+            (
+                "gateway.rs",
+                "pub fn rx_timer(&self, rx_number: usize) -> u8 {",
+                "pub fn rx_timer(&self, rx_number: usize) -> u16 {",
             ),
         ],
     ),
@@ -251,8 +256,8 @@ pub const MISTAKES: &[Mistake] = &[
         "the taken frame counted as waiting",
         &[(
             "gateway.rs",
-            "waiting: queue.len(),",
-            "waiting: queue.len() + 1,",
+            "let waiting = queue.len();",
+            "let waiting = queue.len() + 1;",
         )],
     ),
     mistake(
@@ -277,8 +282,8 @@ pub const MISTAKES: &[Mistake] = &[
         "a longer payload answered 2",
         &[(
             "gateway.rs",
-            "payload.len() < row.size",
-            "payload.len() != row.size",
+            "payload.len() < self.plan.rx_frames[rx_number].size",
+            "payload.len() != self.plan.rx_frames[rx_number].size",
         )],
     ),
     mistake(
@@ -290,9 +295,10 @@ pub const MISTAKES: &[Mistake] = &[
         &[(
             "gateway.rs",
             "        self.require_node(node)?;
-        require(payload.len() <= 8, Refusal::PayloadTooLong)?;\n",
+        // Ticket 2",
             "        require(payload.len() <= 8, Refusal::PayloadTooLong)?;
-        self.require_node(node)?;\n",
+        self.require_node(node)?;
+        // Ticket 2",
         )],
     ),
     mistake(
@@ -305,9 +311,9 @@ pub const MISTAKES: &[Mistake] = &[
             ),
             (
                 "gateway.rs",
-                "        if payload.len() < row.size {\n",
+                "        if self.is_too_short(rx_number, payload) {\n",
                 "        require(payload.len() <= 8, Refusal::PayloadTooLong)?;
-             if payload.len() < row.size {\n",
+             if self.is_too_short(rx_number, payload) {\n",
             ),
         ],
     ),
@@ -369,12 +375,20 @@ pub const MISTAKES: &[Mistake] = &[
             ),
             (
                 "gateway.rs",
-                "        Ok(Answer::Accepted)\n",
-                "        due.sort();
-             for tx_number in due {
-                 self.schedule(tx_number);
-             }
-             Ok(Answer::Accepted)\n",
+                "            }
+        }
+    }
+
+    /// \"Lookup searches",
+                "            }
+        }
+        due.sort();
+        for tx_number in due {
+            self.schedule(tx_number);
+        }
+    }
+
+    /// \"Lookup searches",
             ),
         ],
     ),
@@ -392,7 +406,8 @@ pub const MISTAKES: &[Mistake] = &[
         &[(
             "gateway.rs",
             "            return Ok(Answer::TooShort);\n",
-            "            self.rx_states[rx_number].long_counter = row.long_count;
+            "            let long_count = self.plan.rx_frames[rx_number].long_count;
+             self.rx_states[rx_number].long_counter = long_count;
              return Ok(Answer::TooShort);\n",
         )],
     ),
@@ -414,14 +429,14 @@ pub const MISTAKES: &[Mistake] = &[
         &[(
             "gateway.rs",
             "        self.require_node(node)?;
-        require(payload.len() <= 8, Refusal::PayloadTooLong)?;\n",
+        // Ticket 2",
             "        for (row, state) in self.plan.rx_frames.iter().zip(&mut self.rx_states) {
-                 if row.id == id && usize::from(node) >= self.plan.node_count {
+                 if row.id == id && usize::from(node) >= self.plan.nodes.len() {
                      state.long_counter = row.long_count;
                  }
              }
              self.require_node(node)?;
-             require(payload.len() <= 8, Refusal::PayloadTooLong)?;\n",
+             // Ticket 2",
         )],
     ),
     mistake(
@@ -449,9 +464,9 @@ pub const MISTAKES: &[Mistake] = &[
         "restart at a tick without an expiry",
         &[(
             "gateway.rs",
-            "                *report_byte = self.time_out(rx_number);
+            "                *report_byte = self.expiry(rx_number);
             }\n",
-            "                *report_byte = self.time_out(rx_number);
+            "                *report_byte = self.expiry(rx_number);
              } else {
                  let long_count = self.plan.rx_frames[rx_number].long_count;
                  self.rx_states[rx_number].long_counter = long_count;
@@ -481,7 +496,8 @@ pub const MISTAKES: &[Mistake] = &[
         &[(
             "gateway.rs",
             "        self.rx_states[rx_number].long_counter = row.long_count;\n",
-            "        for (row, state) in self.plan.rx_frames.iter().zip(&mut self.rx_states) {
+            "        let id = row.id;
+             for (row, state) in self.plan.rx_frames.iter().zip(&mut self.rx_states) {
                  if row.id == id {
                      state.long_counter = row.long_count;
                  }
@@ -603,22 +619,22 @@ pub const MISTAKES: &[Mistake] = &[
         "no place on a node without rows",
         &[(
             "bench.rs",
-            "            Ok(answer) => rx_line(answer),\n",
-            "            Ok(Answer::NoMatchingRow { .. })
+            "match gateway.receive(node, id, &handed_on(length, &data)) {\n",
+            "match gateway.receive(node, id, &handed_on(length, &data)) {
+             Ok(Answer::NoMatchingRow { .. })
                  if gateway.plan().rx_frames.iter().all(|row| row.node != node) =>
              {
                  \"rx 1\".to_string()
-             }
-             Ok(answer) => rx_line(answer),\n",
+             }\n",
         )],
     ),
     mistake(
         "no place for an ID above 2047",
         &[(
             "bench.rs",
-            "            Ok(answer) => rx_line(answer),\n",
-            "            Ok(Answer::NoMatchingRow { .. }) if id > 2047 => \"rx 1\".to_string(),
-             Ok(answer) => rx_line(answer),\n",
+            "match gateway.receive(node, id, &handed_on(length, &data)) {\n",
+            "match gateway.receive(node, id, &handed_on(length, &data)) {
+             Ok(Answer::NoMatchingRow { .. }) if id > 2047 => \"rx 1\".to_string(),\n",
         )],
     ),
     mistake(
@@ -1052,9 +1068,9 @@ pub const MISTAKES: &[Mistake] = &[
         "3 before 1",
         &[(
             "parse.rs",
-            "        require(rest.len() >= length, Refusal::PastTheEnd)?;
-        require(self.may_stand_here(kind), Refusal::KindNotHere)?;\n",
-            "        require(self.may_stand_here(kind), Refusal::KindNotHere)?;
+            "        require(rest.len() >= length, Refusal::PastTheEnd)?;\n",
+            "        let body = rest.get(1..length).unwrap_or(&[2]);
+        require(self.may_stand_here(kind, body), Refusal::KindNotHere)?;
         require(rest.len() >= length, Refusal::PastTheEnd)?;\n",
         )],
     ),
@@ -1062,8 +1078,8 @@ pub const MISTAKES: &[Mistake] = &[
         "a node after a Tx frame",
         &[(
             "parse.rs",
-            "matches!(before, HEAD | NODE),",
-            "matches!(before, HEAD | NODE | TX_FRAME),",
+            "matches!(before, HEAD | NODE) &&",
+            "matches!(before, HEAD | NODE | TX_FRAME) &&",
         )],
     ),
     mistake(
@@ -1078,10 +1094,10 @@ pub const MISTAKES: &[Mistake] = &[
         "5 before 4 at a node",
         &[(
             "parse.rs",
-            "        require(self.plan.node_count < MOST_NODES, Refusal::CountPassed)?;
-        require(body[0] == 0, Refusal::OutsideRange)?;\n",
-            "        require(body[0] == 0, Refusal::OutsideRange)?;
-        require(self.plan.node_count < MOST_NODES, Refusal::CountPassed)?;\n",
+            "        require(self.plan.nodes.len() < MOST_NODES, Refusal::CountPassed)?;
+        let node_type = node_type(body[0]).ok_or(Refusal::OutsideRange)?;\n",
+            "        let node_type = node_type(body[0]).ok_or(Refusal::OutsideRange)?;
+        require(self.plan.nodes.len() < MOST_NODES, Refusal::CountPassed)?;\n",
         )],
     ),
     mistake(

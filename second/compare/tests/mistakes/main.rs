@@ -2,13 +2,14 @@
 //!
 //! The second program itself stays clean: for each mistake its sources are
 //! copied, the text of the copy is changed, the copy is built, and the
-//! comparison must find a difference within 1,000 cases. Where the mistake
+//! comparison must find a difference within 2,000 cases. Where the mistake
 //! breaks Ticket 8's sentence, that must be found too, by the cases that are
 //! made for it. The unchanged copy must agree.
 //!
 //! `cargo test --offline --test mistakes -- --nocapture` prints the results.
 
 mod ages;
+mod lin;
 mod list;
 
 use std::fs;
@@ -17,9 +18,10 @@ use std::process::{Command, Output};
 
 use ages::AGES;
 use compare::shapes::Shapes;
+use lin::LIN;
 use list::{Mistake, MISTAKES};
 
-const SOURCES: [&str; 10] = [
+const SOURCES: [&str; 13] = [
     "Cargo.toml",
     "Cargo.lock",
     "src/main.rs",
@@ -27,9 +29,12 @@ const SOURCES: [&str; 10] = [
     "src/bench.rs",
     "src/bits.rs",
     "src/gateway.rs",
+    "src/lin.rs",
     "src/parse.rs",
     "src/plan.rs",
     "src/refusal.rs",
+    "src/responses.rs",
+    "src/taken.rs",
 ];
 
 /// Copies the second program to a folder of its own.
@@ -98,8 +103,8 @@ fn has_old_fix(shapes: &Shapes, program: &Path) -> bool {
 #[test]
 fn the_unchanged_program_agrees() {
     let program = build(&copy_second("unchanged"));
-    let output = compare(&["--cases", "1000", "--seed", "2"], &program);
-    assert_eq!(last_line(&output), "the same output in all 1000 cases");
+    let output = compare(&["--seed", "2"], &program);
+    assert_eq!(last_line(&output), "the same output in all 2000 cases");
     assert_eq!(output.status.code(), Some(0));
 
     let output = compare(&["--case-seed", "65536"], &program);
@@ -119,11 +124,12 @@ fn the_unchanged_program_agrees() {
 fn every_planted_mistake_is_found() {
     let shapes = Shapes::all();
     let mut missed = Vec::new();
-    for (number, mistake) in MISTAKES.iter().chain(AGES).enumerate() {
+    let mistakes = MISTAKES.iter().chain(AGES).chain(LIN);
+    for (number, mistake) in mistakes.enumerate() {
         let copy = copy_second(&format!("mistake-{number}"));
         plant(&copy, mistake);
         let program = build(&copy);
-        let output = compare(&["--cases", "1000", "--seed", "1"], &program);
+        let output = compare(&["--seed", "1"], &program);
         println!("{}: {}", mistake.name, last_line(&output));
         let said = String::from_utf8_lossy(&output.stdout);
         let found = output.status.code() == Some(1) && said.contains("DIFFERENCE");

@@ -1,9 +1,12 @@
 //! Small words for writing plans and inputs in the tests.
 #![allow(dead_code)]
 
+use second::lin::enhanced_checksum;
+
 pub const BIG: [u8; 2] = [1, 0];
 pub const LITTLE: [u8; 2] = [1, 1];
 pub const NODE: [u8; 2] = [2, 0];
+pub const LIN_NODE: [u8; 2] = [2, 1];
 pub const TICK: [u8; 1] = [17];
 
 /// A Tx frame record: node, ID, size, prescaler, reload, timer, flags, payload.
@@ -89,6 +92,32 @@ pub fn reception_of_length(node: u8, id: u16, length: u8, data: [u8; 8]) -> Vec<
     let mut record = vec![16, node, high, low, length];
     record.extend(data);
     record
+}
+
+/// A LIN response with its right checksum.
+pub fn response(node: u8, id: u16, payload: &[u8]) -> Vec<u8> {
+    let checksum = enhanced_checksum(id, payload);
+    response_with(node, id, payload, checksum)
+}
+
+/// A LIN response with this checksum.
+pub fn response_with(node: u8, id: u16, payload: &[u8], checksum: u8) -> Vec<u8> {
+    let mut data = [0; 8];
+    data[..payload.len()].copy_from_slice(payload);
+    response_of_length(node, id, payload.len() as u8, data, checksum)
+}
+
+pub fn response_of_length(node: u8, id: u16, length: u8, data: [u8; 8], checksum: u8) -> Vec<u8> {
+    let [high, low] = id.to_be_bytes();
+    let mut record = vec![20, node, high, low, length];
+    record.extend(data);
+    record.push(checksum);
+    record
+}
+
+pub fn no_response(node: u8, id: u16) -> Vec<u8> {
+    let [high, low] = id.to_be_bytes();
+    vec![21, node, high, low]
 }
 
 pub fn take(node: u8) -> Vec<u8> {

@@ -25,8 +25,12 @@ returns-3 : tie.Need-returns-3
 unfolding payloadStruct noPart takenOf
 returns-3 c =
     let a = c .before .before .args in
+    let Empty : Taken → Type 0 = λ t. noPart ≡ payloadStruct (a .length) t in
     rw (passes _ _ _ (ne-eqb _ _ (c .if1 .left)))
-    (both (λ (t : Taken). noPart ≡ payloadStruct (a .length) t) (eqb (a .taken .number) 0) _ _ refl refl)
+    (both Empty (eqb (a .taken .kind) 2) _ _ refl (both Empty (eqb (a .taken .number) 0) _ _ refl refl))
 
 pub payload-struct-spec : {M : Type 1} → statement M
-payload-struct-spec = tie.close (tie.spec (λ c. search needs) (λ c κs. search needs) (λ c. search needs) (λ c κs. search needs) (λ c. search needs) (λ c. search needs) returns returns-2 returns-3)
+payload-struct-spec =
+    tie.close
+    (tie.spec (λ c. search needs) (λ c κs. search needs) (λ c. search needs) (λ c κs. search needs) (λ c. search needs) (λ c. search needs)
+    returns returns-2 returns-3)

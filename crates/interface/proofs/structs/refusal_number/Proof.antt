@@ -1,4 +1,4 @@
--- `interface::structs::refusal_number` meets its contract: the numbers are at most 15.
+-- `interface::structs::refusal_number` meets its contract: the numbers are at most 16.
 use Prim.Native.Nat.{_≤_}
 use native.Mathlib.Omega.{arith}
 use borrow.Author.Needs.{needs}
@@ -9,7 +9,7 @@ use Rattle.interface.proofs.structs.refusal_number.Tie as tie
 
 returns : tie.Need-returns
 returns c =
-    let small : refusalNumber (c .before .args .why) ≤ 15 = numbered (c .before .args .why) .high in
+    let small : refusalNumber (c .before .args .why) ≤ 16 = numbered (c .before .args .why) .high in
     rw (c .refusal-number .ensures) (omega arith)
 
 pub refusal-number-spec : {M : Type 1} → statement M

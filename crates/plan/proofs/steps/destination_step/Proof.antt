@@ -57,6 +57,12 @@ returns-5 c =
       refl,
     )
 
+slice-read-claim : tie.Need-slice-read-claim
+slice-read-claim c =
+    let frame = c .before .before .before .before .before in
+    let start = frame .before .before .before .before .before .before .before .before .before .before .before .before .before .before .before in
+    omega (arith, start .pre .0 .tx, start .pre .2, frame .if4 .left)
+
 claim-requires : tie.Need-claim-requires
 claim-requires c κs =
     let inside = c .before in
@@ -153,5 +159,5 @@ destination-step-spec =
     tie.close
     (tie.spec (λ c κs. search needs) returns (λ c κs. search needs) returns-2 (λ c κs. search needs) returns-3 (λ c κs. search needs)
     (λ c κs. search needs) returns-4 (λ c. search needs) (λ c κs. search needs) (λ c. search needs) (λ c. search needs) (λ c κs. search needs)
-    returns-5 (λ c. search needs) (λ c. search needs) claim-requires (λ c. search needs) (λ c κs. search needs) (λ c. search needs) mul-sets
+    returns-5 (λ c. search needs) slice-read-claim claim-requires (λ c. search needs) (λ c κs. search needs) (λ c. search needs) mul-sets
     slice-write-sets add-t32 add-t32-2 go-on-requires returns-6 (λ c. search needs) returns-7)

@@ -23,13 +23,14 @@ returns-3 c =
 returns-4 : tie.Need-returns-4
 unfolding after counted rowAfter stageOf
 returns-4 c =
-    let range = c .before .before in
+    let counted = c .before .before in
+    let range = counted .before in
     let count = range .before .before in
     let place = count .before .before in
-    past (node-tests _ _ _ _) (place .if1 .left) (count .if2 .left) (range .if3 .left) (c .go-on .ensures)
+    past (node-tests _ _ _ _) (place .if1 .left) (count .if2 .left) (range .if3 .left) (c .go-on .ensures ∙ rw (counted .can-after .ensures))
 
 pub node-step-spec : {M : Type 1} → statement M
 node-step-spec =
     tie.close
-    (tie.spec (λ c κs. search needs) returns (λ c κs. search needs) returns-2 (λ c κs. search needs) returns-3 (λ c. search needs)
-    (λ c κs. search needs) returns-4)
+    (tie.spec (λ c κs. search needs) returns (λ c κs. search needs) returns-2 (λ c κs. search needs) returns-3 (λ c κs. search needs)
+    (λ c. search needs) (λ c κs. search needs) returns-4)

@@ -7,13 +7,13 @@ use lib.ListN.{length-set}
 use Rattle.base.specs.Pick.{pick}
 use Rattle.clock.specs.Timer.{expires}
 use Rattle.ticking.specs.Sixteen.{rxStep, stepReport}
-use Rattle.ticking.proofs.ExpiryLaws.{report-set}
+use Rattle.ticking.proofs.Apart.{report-apart}
 use borrow.Author.Needs.{needs}
 use Rattle.ticking.proofs.rx.rx_step.Statement.{statement}
 use Rattle.ticking.proofs.rx.rx_step.Tie as tie
 
 same-length : tie.Need-same-length
-same-length c = c .before .before .expire .kept .0 ∙ simp length-set
+same-length c = c .before .before .expiry .kept .0 ∙ simp length-set
 
 returns : tie.Need-returns
 unfolding expires rxStep stepReport pick
@@ -22,7 +22,7 @@ returns c =
     let c4 = c2 .before .before in
     let c6 = c4 .before .before in
     let on : eqb (c6 .before .before .before .before .args .count) 1 ≡ true = sym (c6 .step-timer .ensures .1) ∙ c4 .if1 .taken in
-    rw on (c2 .expire .ensures .0 ∙ rw (c4 .before .rx-timer .ensures) (report-set _ _ _ _ (omega arith)), cc)
+    rw on (c2 .expiry .ensures .0 ∙ rw (c4 .before .rx-timer .ensures) (report-apart _ _ (omega arith) (omega arith) _ _ (omega arith)), cc)
 
 returns-2 : tie.Need-returns-2
 unfolding expires rxStep stepReport pick

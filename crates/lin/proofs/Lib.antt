@@ -1,0 +1,3 @@
+pub mod Identifiers
+pub mod Sums
+pub mod Worth

@@ -1,0 +1,3 @@
+pub mod Identifier
+pub mod Checksum
+pub mod Statements

@@ -1,0 +1,13 @@
+-- `polling::respond::restart_long` meets its contract: the long counter takes the long count.
+use Rattle.area.specs.Layout.{rxFrame}
+use Rattle.polling.specs.Polling.{longAgain}
+use borrow.Author.Needs.{needs}
+use Rattle.polling.proofs.respond.restart_long.Statement.{statement}
+use Rattle.polling.proofs.respond.restart_long.Tie as tie
+
+returns : tie.Need-returns
+unfolding longAgain rxFrame
+returns c = cc
+
+pub restart-long-spec : {M : Type 1} → statement M
+restart-long-spec = tie.close (tie.spec (λ c κs. search needs) (λ c κs. search needs) (λ c. search needs) (λ c. search needs) returns)

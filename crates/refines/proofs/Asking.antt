@@ -6,7 +6,7 @@ use mathlib.Core.List.{List, [], _∷_, _++_}
 use Prim.Native.Nat.{ℕ, _+_, _≤_, _<_}
 use native.Mathlib.Omega.{arith}
 use native.Mathlib.Decide.{ℕ-discrete}
-use lib.ListN.{length, getD, set, length-set}
+use lib.ListN.{length, getD, set}
 use lib.Seq.{getD-set-same, getD-set-other}
 use Rattle.base.specs.Numbers.{byteAt}
 use Rattle.base.proofs.Picks.{picks, passes}
@@ -33,7 +33,7 @@ use Rattle.model.specs.Scheduling as model
 use Rattle.refines.specs.Shows.{waitingOn}
 use Rattle.refines.proofs.Entries.{mapped-last}
 use Rattle.refines.proofs.Lin.{lin-told}
-use Rattle.refines.proofs.Held.{Held, moved, below}
+use Rattle.refines.proofs.Held.{Held, moved, below, shape-queue}
 use Rattle.refines.proofs.Marks.{marked-in, unmarked-out}
 
 module _ {plan a : List ℕ} {s : State} (h : Held plan a s) (r : ℕ) (l : r < length (rowsOf plan))
@@ -66,22 +66,13 @@ module _ {plan a : List ℕ} {s : State} (h : Held plan a s) (r : ℕ) (l : r < 
   joining : byteAt a (waits (requestsStart + r)) ≡ 0 → Held plan (requested a r) (asked (said plan) s r)
   unfolding asked
   joining z =
-      let w = h .shape in
       let tx = h .good .counts .tx in
       let rx = h .good .counts .rx in
       record {
         good = h .good;
         reads = reads;
         ready = moved (h .ready) (moves-requested (h .ready) r l lin);
-        shape =
-            record {
-              kept = w .kept;
-              payload = w .payload;
-              txTimers = w .txTimers;
-              rxTimers = w .rxTimers;
-              longs = w .longs;
-              queues = length-set (s .queues) n _ ∙ w .queues;
-            };
+        shape = shape-queue (h .shape) n _;
         shows =
             record {
               number = leaves 2 (λ x. omega arith) (λ x. omega arith) (λ x. omega arith) ∙ h .shows .number;

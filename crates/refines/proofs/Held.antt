@@ -3,10 +3,11 @@ use mathlib.Core.Path.{_≡_, sym, ap, _∙_}
 use mathlib.Core.List.{List, []}
 use Prim.Native.Nat.{ℕ, _+_, _<_}
 use native.Mathlib.Omega.{arith}
-use lib.ListN.{length, getD}
+use lib.ListN.{length, getD, length-set}
 use Rattle.base.specs.Numbers.{byteAt}
 use Rattle.clock.specs.Counter.{counterAfter}
 use Rattle.records.specs.Records.{records}
+use Rattle.records.specs.declared.record.Entry.{Entry}
 use Rattle.plan.specs.Rows.{txOf, rowsOf, nodesIn}
 use Rattle.facts.specs.Good.{GoodPlan}
 use Rattle.area.specs.Layout.{LongEnough, txTimer, rxTimer, long, payload, counter}
@@ -17,8 +18,8 @@ use Rattle.tables.specs.Reads.{Reads}
 use Rattle.history.proofs.Steady.{Steady, reads-steady}
 use Rattle.sending.proofs.Holding.{holding-kept}
 use Rattle.sending.proofs.Moves.{Ready, Moves, Resting, Rests, moves-rests}
-use Rattle.model.specs.Plan.{said}
-use Rattle.model.specs.State.{State, keptOf}
+use Rattle.model.specs.Plan.{Plan, said}
+use Rattle.model.specs.State.{State, keptOf, withQueue}
 use Rattle.model.specs.Opening.{mapped}
 use Rattle.model.specs.Words.{Shape}
 use Rattle.refines.specs.Shows.{Shows}
@@ -33,6 +34,18 @@ pub record Held (plan a : List ℕ) (s : State) : Type 0 where
 -- a step of the queues' law leaves the area ready
 pub moved : {plan a b : List ℕ} → Ready plan a → Moves plan a b → Ready plan b
 moved r m = record { holding = holding-kept (m .kept) (r .holding); queues = m .queues }
+
+-- another queue on one node leaves a state's shape
+pub shape-queue : {p : Plan} {s : State} → Shape p s → (n : ℕ) (q : List Entry) → Shape p (withQueue s n q)
+shape-queue {s = s} w n q =
+    record {
+      kept = w .kept;
+      payload = w .payload;
+      txTimers = w .txTimers;
+      rxTimers = w .rxTimers;
+      longs = w .longs;
+      queues = length-set (s .queues) n q ∙ w .queues;
+    }
 
 module _ {plan a : List ℕ} {s : State} (h : Held plan a s) where
   pub below : (n : ℕ) → n < nodesIn (records plan) → n < 16

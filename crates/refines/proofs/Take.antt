@@ -6,7 +6,7 @@ use Prim.Native.Nat.{ℕ, _+_, _%_, _≤_, _<_}
 use native.Mathlib.Omega.{arith}
 use native.Mathlib.Decide.{ℕ-discrete}
 use lib.Dec.{ltb}
-use lib.ListN.{length, getD, set, take, drop, length-set, length-drop}
+use lib.ListN.{length, getD, set, take, drop, length-drop}
 use lib.Seq.{getD-set-same, getD-set-other, ext-getD, length-take-le, getD-take, getD-drop}
 use borrow.Author.Tests.{ltb-true, le-leb}
 use Rattle.base.specs.Pick.{pick}
@@ -38,7 +38,7 @@ use Rattle.model.proofs.Begins.{mapped-length}
 use Rattle.model.specs.Calls as calls
 use Rattle.history.specs.Calls.{answerIn, areaAfter}
 use Rattle.refines.specs.Shows.{waitingOn}
-use Rattle.refines.proofs.Held.{Held, below}
+use Rattle.refines.proofs.Held.{Held, below, shape-queue}
 use Rattle.refines.proofs.Follows.{Follows}
 
 -- no place of a payload is a queue's, a timer's or a wait's
@@ -72,23 +72,13 @@ module _ {plan a : List ℕ} {s : State} (h : Held plan a s) (n : ℕ) (l : n < 
 
   held-left : (k : ℕ) (rest : List ℕ) → queueOf a n ≡ k ∷ rest → Held plan (takenArea a n) (withQueue s n (mapped entryOf rest))
   held-left k rest e =
-      let w = h .shape in
-      let b = takenArea a n in
       let steady = aside-taken steady-aside a n in
       let u = untaken a n in
       record {
         good = h .good;
         reads = reads-steady steady (h .reads);
         ready = record { holding = holding-kept (kept-steady steady) (h .ready .holding); queues = queues-taken n (h .ready) };
-        shape =
-            record {
-              kept = w .kept;
-              payload = w .payload;
-              txTimers = w .txTimers;
-              rxTimers = w .rxTimers;
-              longs = w .longs;
-              queues = length-set (s .queues) n _ ∙ w .queues;
-            };
+        shape = shape-queue (h .shape) n _;
         shows =
             record {
               number = u .at counterByte (λ x. omega arith, omega arith) ∙ h .shows .number;

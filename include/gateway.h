@@ -124,7 +124,8 @@ uint16_t gateway_tick(uint8_t *area, size_t area_length, uint8_t *report, size_t
  * The oldest frame or request that waits on a node, which then waits no more. The kind is GATEWAY_FRAME, and then the answer has its Tx number; or
  * GATEWAY_REQUEST, on a LIN node, and then the Rx number of the frame that is asked for; and with both its size, its ID and how many still wait on
  * that node. On LIN `protected_id` is the protected identifier, which is never 0, and for a frame `checksum` that of the payload; on CAN both are 0.
- * The kind is GATEWAY_NOTHING where nothing waits or the take is refused. Refusals 11, 12.
+ * What waits leaves in the order in which it joined: with n ahead of it, at the (n + 1)-th take on its node. The kind is GATEWAY_NOTHING where
+ * nothing waits or the take is refused. Refusals 11, 12.
  */
 struct gateway_taken {
     uint16_t number;

@@ -82,6 +82,15 @@ protected 0xe2; 3 bytes and a checksum should come
 checksum 0xb0, protected 0xe2
 END
 
+# How many can be ahead of each frame and of each request. Node 0 has a Tx frame; node 1 an Rx frame that is asked for, one that never is, and two Tx frames.
+frame='0000000000000000'
+printf '01 00\n02 00\n02 01\n03 00 0100 01 01 01 01 00 %s\n03 01 0003 01 01 01 01 00 %s\n03 01 0004 01 01 01 01 00 %s\n' $frame $frame $frame >"$there/ahead.txt"
+printf '04 00 0020 01 01 01 01 00 00 00\n04 01 0001 01 01 01 01 00 00 00\n04 01 0002 01 01 00 00 00 00 00\nevents\n' >>"$there/ahead.txt"
+tools/bench "$there/ahead.txt" | grep -oE '[TR]x frame [0-9]|(its request: )?(none|at most [0-9]+) ahead of it on node [0-9]+' | paste -sd/ >"$there/shown"
+[ "$(cat "$there/shown")" = 'Tx frame 0/none ahead of it on node 0/Tx frame 1/at most 3 ahead of it on node 1/Tx frame 2/at most 3 ahead of it on node 1'\
+'/Rx frame 0/Rx frame 1/its request: at most 3 ahead of it on node 1/Rx frame 2' ] || fail "ahead of each frame: $(cat "$there/shown")"
+tools/bench examples/refused-two-owners.txt | grep -q 'ahead of it' && fail "a refused plan: told who is ahead"
+
 # Terminals that have ASCII alone.
 printf '# na\303\257ve\n0100\nevents\n' >"$there/comment.txt"
 printf '0\303\257\nevents\n' >"$there/word.txt"

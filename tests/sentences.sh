@@ -138,6 +138,25 @@ says 'the old reception gives 16 on a LIN node, after 12 and before 13' "$pump" 
     "10 01 0001 01 2c00000000000000 10 01 0001 09 $none 10 02 0001 09 $none" 'plan ok 2 1 1/rx refused 16/rx refused 16/rx refused 12'
 says 'a cut response is bad' "$pump" '14 01 0001 01 2c00000000000000' 'plan ok 2 1 1/input bad'
 says 'a cut silence is bad' "$pump" '15 01 00' 'plan ok 2 1 1/input bad'
+# Ticket 14, on nodes 1 and 2 with three Tx frames each, of which each reception on node 0 schedules one by its ID
+queues=$(for id in {0..5}; do printf '03 %02x %04x 01 01 00 00 01 %s ' $((1 + id / 3)) "$id" "$none"; done
+         for id in {0..5}; do printf '04 00 %04x 01 01 00 00 00 00 00 05 00 08 06 %04x 00 ' "$id" "$id"; done)
+joins() { for id in "$@"; do printf ' 10 00 %04x 01 2c00000000000000' "$id"; done; }
+accepted() { printf '/rx 0%.0s' $(seq "$1"); }
+queues="$head $node $node $node $queues"
+says 'the oldest leaves first, whatever its number' "$queues" "$(joins 2 0 1) 12 01 12 01 12 01 12 01" \
+    "plan ok 3 6 6$(accepted 3)/take 2 2 1 2c 2/take 0 0 1 2c 1/take 1 1 1 2c 0/take none"
+says 'a frame with two ahead of it leaves at the third take on its node, whatever comes between' "$queues" \
+    "$(joins 1 2 0) 12 01 $(joins 1 0 4) 11 12 02 12 00 12 03 12 01 $(joins 2) 12 01" \
+    "plan ok 3 6 6$(accepted 3)/take 1 1 1 2c 2$(accepted 3)/tick 0 0 0 0 0 0/take 4 4 1 2c 0/take none/take refused 12/take 2 2 1 2c 2/rx 0/take 0 0 1 2c 2"
+says 'a full ring goes round, entry by entry' "$queues" "$(joins 0 1 2)$(for id in 0 1 2 0 1 2; do printf ' 12 01%s' "$(joins "$id")"; done)" \
+    "plan ok 3 6 6$(accepted 3)$(for id in 0 1 2 0 1 2; do printf '/take %s %s 1 2c 2/rx 0' "$id" "$id"; done)"
+says 'two full rings side by side' "$queues" "$(joins 0 1 2 3 4 5) 12 01 $(joins 0) 12 02 $(joins 3) 12 01 12 01 12 01 12 02 12 02 12 02" \
+    "plan ok 3 6 6$(accepted 6)/take 0 0 1 2c 2/rx 0/take 3 3 1 2c 2/rx 0/take 1 1 1 2c 2/take 2 2 1 2c 1/take 0 0 1 2c 0/take 4 4 1 2c 2/take 5 5 1 2c 1/take 3 3 1 2c 0"
+says 'a full ring of frames and requests' "$head $lin 03 00 0003 01 01 01 01 00 $none 04 00 0001 01 01 01 01 00 00 00 04 00 0002 01 01 01 01 00 00 00" \
+    '11 12 00 11 12 00 11 12 00 11 12 00' \
+    'plan ok 1 1 2/tick 0 0/take 0 3 1 00 2/tick 0 0/take request 0 1 1 2/tick 0 0/take request 1 2 1 2/tick 0 0/take 0 3 1 00 2'
+says 'on a node without frames and requests nothing waits' "$queues" "$(joins 0 1 2 3 4 5) 11 12 00" "plan ok 3 6 6$(accepted 6)/tick 0 0 0 0 0 0/take none"
 # the last of 256 rows: its place is the highest that an acceptance writes
 rows=$(for id in {0..255}; do printf '04 00 %04x 01 01 01 01 00 00 02 ' "$id"; done)
 bytes() { printf " $1%.0s" {1..255}; }

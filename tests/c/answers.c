@@ -227,6 +227,42 @@ static void ages(void)
     expect("failure bit since the opening", area[at + 1], 0);
 }
 
+/* The answer to a take on this node is this Tx frame of the plan below. */
+static void expect_turn(size_t node, unsigned tx, unsigned waiting)
+{
+    expect_can_frame(gateway_take(area, GATEWAY_AREA_SIZE, node), tx, 1, tx, waiting);
+}
+
+/* Ticket 14: two full queues of 128 frames each, which fall due at every tick, and between them a node without any. */
+static void turns(void)
+{
+    static uint8_t full_plan[2 + 3 * 2 + 256 * 17] = {1, 0, 2, 0, 2, 0, 2, 0};
+    for (unsigned tx = 0; tx < 256; tx++) {
+        uint8_t *record = full_plan + 8 + 17 * tx;
+        const uint8_t fields[9] = {3, tx < 128 ? 0 : 2, 0, (uint8_t)tx, 1, 1, 1, 1, 0};
+        for (unsigned i = 0; i < sizeof fields; i++)
+            record[i] = fields[i];
+    }
+    expect("open with full queues", gateway_open(full_plan, sizeof full_plan, area, GATEWAY_AREA_SIZE).number, 0);
+    expect_nothing("nothing is due yet", gateway_take(area, GATEWAY_AREA_SIZE, 0), 0);
+    gateway_tick(area, GATEWAY_AREA_SIZE, report, sizeof report);
+    for (unsigned tx = 0; tx < 50; tx++)
+        expect_turn(0, tx, 127 - tx);
+    /* the 50 join again behind the 78 that wait, and the ring goes round */
+    gateway_tick(area, GATEWAY_AREA_SIZE, report, sizeof report);
+    expect_nothing("a node without frames", gateway_take(area, GATEWAY_AREA_SIZE, 1), 0);
+    expect_nothing("a refused take", gateway_take(area, GATEWAY_AREA_SIZE, 3), GATEWAY_REFUSED_NO_NODE);
+    for (unsigned i = 0; i < 128; i++) {
+        expect_turn(0, (50 + i) % 128, 127 - i);
+        expect_turn(2, 128 + i, 127 - i);
+    }
+    expect_nothing("all have left", gateway_take(area, GATEWAY_AREA_SIZE, 0), 0);
+    gateway_tick(area, GATEWAY_AREA_SIZE, report, sizeof report);
+    expect_turn(2, 128, 127);
+    gateway_open(full_plan, sizeof full_plan, area, GATEWAY_AREA_SIZE);
+    expect_nothing("an opening empties the queues", gateway_take(area, GATEWAY_AREA_SIZE, 2), 0);
+}
+
 static unsigned respond(size_t node, uint32_t id, const uint8_t *bytes, size_t length, uint8_t checksum)
 {
     return gateway_respond(area, GATEWAY_AREA_SIZE, node, id, bytes, length, checksum);
@@ -374,6 +410,7 @@ int main(int count, char **arguments)
     gateway_tick(area, GATEWAY_AREA_SIZE, report, sizeof report);
     expect("a long timeout, two in a row", report[0], GATEWAY_LONG_TIMEOUT);
     ages();
+    turns();
     lin();
 
     printf(wrong == 0 ? "ok\n" : "wrong\n");

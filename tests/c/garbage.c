@@ -6,6 +6,7 @@
 
 #define BEHIND 4096
 #define SEED 2026
+#define QUEUES 80 /* where in an area the records of the queues begin */
 
 static uint8_t area[BEHIND + GATEWAY_AREA_SIZE + BEHIND];
 static uint8_t report[GATEWAY_REPORT_SIZE];
@@ -64,6 +65,9 @@ int main(void)
             area[i] = before[i] = (uint8_t)next();
         own[0] = before[BEHIND] = 0x47;
         own[1] = before[BEHIND + 1] = 0x57;
+        if (round % 4 == 0) /* no ring has room */
+            for (unsigned node = 0; node < 16; node++)
+                own[QUEUES + 8 * node + 2] = own[QUEUES + 8 * node + 3] = 0;
         for (unsigned i = 0; i < 90; i++)
             call(own);
         for (size_t i = 0; i < sizeof area; i++)

@@ -70,6 +70,11 @@ class Plan:
         """Whether there is such a node and it is a LIN node."""
         return node < self.nodes and self.types[node] == 1
 
+    def schedulable(self, node):
+        """How many frames and requests can be scheduled on a node: its Tx frames, and on a LIN node its Rx frames."""
+        frames = self.tx + self.rx * self.lin(node)
+        return sum(frame.node == node for frame in frames)
+
     def rows(self, event):
         """The number of the Rx frame of an event's node and ID, in a list; an empty one where there is none."""
         return [number for number, frame in enumerate(self.rx) if (frame.node, frame.id) == (event.fields['node'], event.fields['ID'])]

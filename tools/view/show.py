@@ -49,6 +49,8 @@ def show_plan(part, events, answer):
     """Shows the records, the mark of a refusal and the answer, and gives back what the records say."""
     plan = Plan()
     every = list(records(part.data, RECORDS))
+    good = re.fullmatch(r'plan ok (\d+) (\d+) (\d+)', answer)
+    whole = whole_plan(every) if good else None
     number_width = max(PLAN[0], len(str(len(every))))
     widths = (number_width, PLAN[1], sum(PLAN[:1] + PLAN[2:]) - number_width)
     refusal = re.fullmatch(r'plan refused ([1-9]|10) (\d{1,5})', answer)
@@ -60,12 +62,11 @@ def show_plan(part, events, answer):
         if record.fields is not None:
             plan.add(number, record)
         digits = clean(digits_of(record), CUT)
-        row(widths, f'{number:{number_width}}', digits, record_words(plan, record))
+        row(widths, f'{number:{number_width}}', digits, record_words(plan, record, whole))
         if refusal and refusal[2] == str(number):
             row(widths, '', '^' * min(len(digits), widths[1]), 'refused here')
     if part.data:
         notes(part, len(part.data))
-    good = re.fullmatch(r'plan ok (\d+) (\d+) (\d+)', answer)
     if refusal:
         words = refusal_words(part, every, int(refusal[1]), int(refusal[2]))
     elif good:
@@ -76,6 +77,15 @@ def show_plan(part, events, answer):
     left = len(list(records(events.data, EVENTS)))
     if left and not good:
         row(widths, '', f'{count(left, "event")} not run')
+    return plan
+
+
+def whole_plan(every):
+    """What all whole records say."""
+    plan = Plan()
+    for number, record in enumerate(every):
+        if record.fields is not None:
+            plan.add(number, record)
     return plan
 
 

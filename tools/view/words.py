@@ -90,8 +90,16 @@ def on_lin(plan, frame):
     return f', protected 0x{protected(frame.id):02x}' if plan.lin(frame.node) else ''
 
 
-def record_words(plan, record):
-    """The record that was added to the plan last."""
+def ahead(good, node, what):
+    """How many can wait before a frame or a request in its node's queue; of a plan that is not good, nothing."""
+    if good is None:
+        return ''
+    others = good.schedulable(node) - 1
+    return f'\n    {what}{f"at most {others}" if others else "none"} ahead of it on node {node}'
+
+
+def record_words(plan, record, good=None):
+    """The record that was added to the plan last; good is the whole plan, if it is good."""
     if record.fields is None:
         return 'a cut record' if record.kind in RECORDS else f'unknown kind {record.kind:02x}: what follows cannot be read'
     values = list(record.fields.values())
@@ -103,14 +111,17 @@ def record_words(plan, record):
         frame = plan.tx[-1]
         period = expiries(frame) if frame.reload or frame.initial else 'no period'
         sends = SENDS.get(frame.flags, f', flags {frame.flags}')
-        return f'Tx frame {len(plan.tx) - 1}: {key(frame)}{on_lin(plan, frame)}, {count(frame.size, "byte")}, {period}{sends}'
+        return f'Tx frame {len(plan.tx) - 1}: {key(frame)}{on_lin(plan, frame)}, {count(frame.size, "byte")}, {period}{sends}' + \
+            ahead(good, frame.node, '')
     if record.kind == 4:
         frame = plan.rx[-1]
         expires, stopped = ('asked for', 'never asked for') if plan.lin(frame.node) else ('timeout', 'no timeout')
         timeout = f'{expires} {expiries(frame)}' if frame.reload or frame.initial else stopped
         long_count = f', long count {frame.long_count}' if frame.long_count else ''
         failure = f', failure bit {frame.position}' if frame.enable else ''
-        return f'Rx frame {len(plan.rx) - 1}: {key(frame)}{on_lin(plan, frame)}, {count(frame.size, "byte")}, {timeout}{long_count}{failure}'
+        asked = plan.lin(frame.node) and (frame.reload or frame.initial)
+        request = ahead(good, frame.node, 'its request: ') if asked else ''
+        return f'Rx frame {len(plan.rx) - 1}: {key(frame)}{on_lin(plan, frame)}, {count(frame.size, "byte")}, {timeout}{long_count}{failure}{request}'
     if record.kind == 5:
         return f'    signal: {bits(*values)}'
     return f'        to {bits(values[1], plan.size)} of Tx frame {values[0]}'

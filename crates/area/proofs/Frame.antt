@@ -91,7 +91,7 @@ slot-low e i = omega arith
 
 pub slot-high : (e : Ends) (i : ℕ) → slot e i + 2 ≤ payloadsStart
 unfolding slot
-slot-high e i = omega (arith, at-most-le (entryCount - 1) (e .start + i))
+slot-high e i = omega arith
 
 module _ {P : ℕ → Type 0} where
   pub same-setEnds : {a b : List ℕ} (n : ℕ) (e : Ends) → NoEnds P n → Same P a b → Same P a (setEnds b n e)

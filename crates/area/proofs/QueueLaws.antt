@@ -12,7 +12,7 @@ use borrow.Author.Tests.{eq-eqb, ne-eqb, ltb-true, ltb-false}
 use lib.ListN.{length, length-set}
 use Rattle.base.specs.Numbers.{byteAt, lowAt, setLow}
 use Rattle.base.proofs.Picks.{picks, passes, cases}
-use Rattle.base.proofs.Ranges.{at-most-is, low-same}
+use Rattle.base.proofs.Ranges.{low-same}
 use Rattle.area.specs.declared.queue.Ends.{Ends}
 use Rattle.area.specs.Layout.{queuesStart, txReloadsStart, entriesStart, payloadsStart, requestsStart, waiterRange, entryCount, LongEnough}
 use Rattle.area.specs.Layout.{queue, entry, waits, txTimer, txFrame, rxFrame}
@@ -144,10 +144,14 @@ far start x y p q e f d = go (decLt p q)
     go (yes l) = inl (omega arith)
     go (no l) = inr (omega (arith, d))
 
+-- where a sound ring has an entry, the oldest is one of them
+inside : (e : Ends) → Sound e → 0 < e .room → e .first < e .room
+inside e s h = omega (arith, s .first)
+
 -- an entry of a sound ring stands where it should
 slot-is : (e : Ends) → Sound e → (i : ℕ) → i < e .room → slot e i ≡ entry (e .start + i)
 unfolding slot
-slot-is e s i h = ap entry (at-most-is (entryCount - 1) (e .start + i) (omega (arith, s .ring)))
+slot-is e s i h = ap entry (mod-eq-of-lt (omega (arith, s .ring)))
 
 -- ---- a queue that nothing moves
 
@@ -185,12 +189,15 @@ module _ (a : List ℕ) (n t : ℕ) (hn : n < 16) (ha : LongEnough a) (s : Sound
       two-kept j (same-setEnds n _ (λ k x y p. omega arith) (aside at t j d (same-refl a)))
 
   module _ (ht : t < waiterRange) (some : endsOf a n .waiting < endsOf a n .room) where
+    first-in : endsOf a n .first < endsOf a n .room
+    first-in = inside (endsOf a n) s (omega arith)
+
     pub ends-queued : endsOf (queued a n t) n ≡ added (endsOf a n)
     unfolding queued added
     ends-queued =
         let low = slot-low (endsOf a n) (behind (endsOf a n) (endsOf a n .waiting)) in
         let same = ends-same n (same-setLow {P = InRecord n} at t (λ p. omega arith) (λ p. omega arith) (same-refl a)) in
-        ends-setEnds (setLow a at t) n (added (endsOf a n)) hn (simp length-set ha) (omega (arith, s .first, s .room)) (omega (arith, s .room))
+        ends-setEnds (setLow a at t) n (added (endsOf a n)) hn (simp length-set ha) (omega (arith, s .first, s .ring)) (omega (arith, s .ring))
         ∙ rw same
 
     joined : lowAt (queued a n t) at ≡ t
@@ -205,9 +212,9 @@ module _ (a : List ℕ) (n t : ℕ) (hn : n < 16) (ha : LongEnough a) (s : Sound
         → lowAt (queued a n t) (slot (endsOf a n) (behind (endsOf a n) i)) ≡ lowAt a (slot (endsOf a n) (behind (endsOf a n) i))
     earlier i l =
         let e = endsOf a n in
-        let d = turned (e .first) i (e .waiting) (e .room) (s .first) l some in
-        let p = slot-is e s (behind e i) (within (e .first) i (e .room) (s .first) (omega arith)) in
-        let q = slot-is e s (behind e (e .waiting)) (within (e .first) (e .waiting) (e .room) (s .first) (s .few)) in
+        let d = turned (e .first) i (e .waiting) (e .room) first-in l some in
+        let p = slot-is e s (behind e i) (within (e .first) i (e .room) first-in (omega arith)) in
+        let q = slot-is e s (behind e (e .waiting)) (within (e .first) (e .waiting) (e .room) first-in (s .few)) in
         beside (slot e (behind e i)) (omega (arith, slot-low e (behind e i))) (far (e .start) _ _ _ _ p q (λ e. d (omega arith)))
 
     -- "the frame joins its node's queue at the end"
@@ -224,24 +231,24 @@ module _ (a : List ℕ) (n t : ℕ) (hn : n < 16) (ha : LongEnough a) (s : Sound
 
     pub sound-queued : Sound (endsOf (queued a n t) n)
     unfolding added
-    sound-queued = rw ends-queued (record { ring = s .ring; few = omega arith; first = s .first; room = s .room })
+    sound-queued = rw ends-queued (record { ring = s .ring; few = omega arith; first = s .first })
 
-  -- the other nodes' queues stay
-  module _ (m : ℕ) (hm : m < 16) (d : m ≢ n) where
-    pub ends-queued-other : endsOf (queued a n t) m ≡ endsOf a m
-    ends-queued-other = ends-same m (same-queued a n t (λ j x y p. d (omega arith)) (λ j x y p. omega arith))
+    -- the other nodes' queues stay
+    module _ (m : ℕ) (hm : m < 16) (d : m ≢ n) where
+      pub ends-queued-other : endsOf (queued a n t) m ≡ endsOf a m
+      ends-queued-other = ends-same m (same-queued a n t (λ j x y p. d (omega arith)) (λ j x y p. omega arith))
 
-    pub queue-queued-other : Sound (endsOf a m) → Apart (endsOf a m) (endsOf a n) → queueOf (queued a n t) m ≡ queueOf a m
-    queue-queued-other r apart =
-        let e = endsOf a n in
-        let f = endsOf a m in
-        let j = within (e .first) (e .waiting) (e .room) (s .first) (s .few) in
-        let q = slot-is e s (behind e (e .waiting)) j in
-        queue-alike a (queued a n t) m ends-queued-other
-        (λ k l.
-        let i = within (f .first) k (f .room) (r .first) (omega (arith, r .few)) in
-        let p = slot-is f r (behind f k) i in
-        beside (slot f (behind f k)) (omega arith) (⊎-elim (λ x. inl (omega arith)) (λ x. inr (omega arith)) apart))
+      pub queue-queued-other : Sound (endsOf a m) → Apart (endsOf a m) (endsOf a n) → queueOf (queued a n t) m ≡ queueOf a m
+      queue-queued-other r apart =
+          let e = endsOf a n in
+          let f = endsOf a m in
+          let j = within (e .first) (e .waiting) (e .room) first-in (s .few) in
+          let q = slot-is e s (behind e (e .waiting)) j in
+          queue-alike a (queued a n t) m ends-queued-other
+          (λ k l.
+          let i = within (f .first) k (f .room) (inside f r (omega (arith, r .few))) (omega (arith, r .few)) in
+          let p = slot-is f r (behind f k) i in
+          beside (slot f (behind f k)) (omega arith) (⊎-elim (λ x. inl (omega arith)) (λ x. inr (omega arith)) apart))
 
 -- ---- leaving
 
@@ -260,28 +267,31 @@ module _ (a : List ℕ) (n : ℕ) (hn : n < 16) where
   pub queue-dequeued-other : (m : ℕ) → m < 16 → m ≢ n → queueOf (dequeued a n) m ≡ queueOf a m
   queue-dequeued-other m hm d = queue-alike a (dequeued a n) m (ends-dequeued-other m hm d) (λ k l. rings (endsOf a m) _)
 
-  module _ (ha : LongEnough a) (s : Sound (endsOf a n)) where
+  module _ (ha : LongEnough a) (s : Sound (endsOf a n)) (some : 0 < endsOf a n .waiting) where
+    oldest-in : endsOf a n .first < endsOf a n .room
+    oldest-in = inside (endsOf a n) s (omega (arith, s .few))
+
     pub ends-dequeued : endsOf (dequeued a n) n ≡ removed (endsOf a n)
     unfolding dequeued removed oldest
     ends-dequeued =
-        let l = within (endsOf a n .first) 1 (endsOf a n .room) (s .first) (omega (arith, s .first)) in
+        let l = within (endsOf a n .first) 1 (endsOf a n .room) oldest-in (omega (arith, oldest-in)) in
         ends-same n (same-set {P = InRecord n} _ 0 (λ p. omega arith) (same-refl _))
-        ∙ ends-setEnds a n (removed (endsOf a n)) hn ha (omega (arith, s .room)) (omega (arith, s .few, s .room))
+        ∙ ends-setEnds a n (removed (endsOf a n)) hn ha (omega (arith, s .ring)) (omega (arith, s .few, s .ring))
 
     moved : (k : ℕ) → k < endsOf a n .room → slot (removed (endsOf a n)) (behind (removed (endsOf a n)) k) ≡ slot (endsOf a n) (behind (endsOf a n) (1 + k))
     unfolding slot removed
-    moved k h = rw (past-next (endsOf a n .first) k (endsOf a n .room) (s .first) h)
+    moved k h = rw (past-next (endsOf a n .first) k (endsOf a n .room) oldest-in h)
 
     -- the oldest leaves
-    pub queue-dequeued : 0 < endsOf a n .waiting → queueOf a n ≡ oldest a n ∷ queueOf (dequeued a n) n
+    pub queue-dequeued : queueOf a n ≡ oldest a n ∷ queueOf (dequeued a n) n
     unfolding queueOf oldest entries removed
-    queue-dequeued h =
+    queue-dequeued =
         let e = endsOf a n in
         let w : e .waiting ≡ suc (e .waiting - 1) = omega arith in
         let head : entries a e 0 (e .waiting) ≡ entryAt a e (behind e 0) ∷ entries a e 1 (e .waiting - 1) = ap (entries a e 0) w in
         let rest : entries (dequeued a n) (removed e) 0 (e .waiting - 1) ≡ entries a e 1 (e .waiting - 1) =
         entries-alike a (dequeued a n) e (removed e) 1 0 (e .waiting - 1) (λ i l. rw (zero-add, moved i (omega (arith, s .few))) (rings e _)) in
-        rw (ends-dequeued, head, past-first (e .first) (e .room) (s .first), rest)
+        rw (ends-dequeued, head, past-first (e .first) (e .room) oldest-in, rest)
 
     pub sound-dequeued : Sound (endsOf (dequeued a n) n)
     unfolding removed
@@ -290,8 +300,7 @@ module _ (a : List ℕ) (n : ℕ) (hn : n < 16) where
         (record {
           ring = s .ring;
           few = omega (arith, s .few);
-          first = within (endsOf a n .first) 1 (endsOf a n .room) (s .first) (omega (arith, s .first));
-          room = s .room;
+          first = omega (arith, within (endsOf a n .first) 1 (endsOf a n .room) oldest-in (omega (arith, oldest-in)));
         })
 
 -- ---- scheduling

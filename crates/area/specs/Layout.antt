@@ -89,7 +89,7 @@ abbrev pub rowsEnd : ℕ
 rowsEnd = 4560
 
 abbrev pub entriesStart : ℕ
-entriesStart = 5328
+entriesStart = 5360
 
 abbrev pub payloadsStart : ℕ
 payloadsStart = 6384
@@ -128,12 +128,9 @@ requestsStart = 256
 abbrev pub waiterRange : ℕ
 waiterRange = 512
 
--- how many entries all rings have, and what the room of one is brought below
+-- how many entries all rings have: one for each Tx frame, and one for the request of each Rx frame
 abbrev pub entryCount : ℕ
-entryCount = 528
-
-abbrev pub mostRoom : ℕ
-mostRoom = 1024
+entryCount = 512
 
 -- a node's first row, and its row count, are below this, whatever stands in the area; and a lookup finds no row past their sum
 abbrev pub rowRange : ℕ

@@ -1,21 +1,21 @@
--- A node's queue: a ring of entries, each a number in two bytes: of a Tx frame, or of a request. Its record in the area: where the ring begins,
--- one less than its room, where the oldest entry is, and how many wait.
-use Prim.Native.Nat.{ℕ, zero, suc, _+_, _-_, _%_, _<_, _≤_}
+-- A node's queue: a ring of entries, each a number in two bytes: of a Tx frame, or of a request. Its record in the area: where the ring begins, how
+-- many entries it has room for, where the oldest entry is, and how many wait.
+use Prim.Native.Nat.{ℕ, zero, suc, _+_, _-_, _%_, _≤_}
 use mathlib.Core.Logic.{_⊎_}
 use mathlib.Core.List.{List, [], _∷_}
 use lib.Dec.{ltb, eqb}
 use lib.ListN.{set}
 use Rattle.base.specs.Pick.{pick}
-use Rattle.base.specs.Numbers.{byteAt, lowAt, setLow, atMost}
+use Rattle.base.specs.Numbers.{byteAt, lowAt, setLow}
 use Rattle.records.specs.declared.record.Entry.{Entry}
 use Rattle.records.specs.declared.record.Entry.the-variants.{Frame, Request}
 use Rattle.records.specs.Nodes.{frame, request}
-use Rattle.area.specs.Layout.{requestsStart, waiterRange, entryCount, mostRoom, queue, entry, waits, txReload, txTimer, txFrame, rxFrame}
+use Rattle.area.specs.Layout.{requestsStart, waiterRange, entryCount, queue, entry, waits, txReload, txTimer, txFrame, rxFrame}
 use Rattle.area.specs.declared.queue.Ends.{Ends}
 
 -- how many entries node n's ring has room for
 abbrev pub roomOf : List ℕ → ℕ → ℕ
-roomOf a n = lowAt a (queue n + 2) % mostRoom + 1
+roomOf a n = lowAt a (queue n + 2)
 
 unfoldable pub endsOf : List ℕ → ℕ → Ends
 endsOf a n =
@@ -32,7 +32,7 @@ past first k room = pick (ltb (first + k) room) (first + k) (first + k - room)
 
 -- where entry i of a ring stands in the area
 unfoldable pub slot : Ends → ℕ → ℕ
-slot e i = entry (atMost (entryCount - 1) (e .start + i))
+slot e i = entry ((e .start + i) % entryCount)
 
 -- the entry that is k behind the oldest
 abbrev pub behind : Ends → ℕ → ℕ
@@ -98,12 +98,12 @@ entries a e k (suc c) = entryAt a e (behind e k) ∷ entries a e (suc k) c
 unfoldable pub queueOf : List ℕ → ℕ → List ℕ
 queueOf a n = entries a (endsOf a n) 0 (endsOf a n .waiting)
 
--- a queue that opening and the calls make: its ring lies among the entries, and no more wait than there is room for
+-- a queue that opening and the calls make: its ring lies among the entries, no more wait than there is room for, and the oldest is in the ring, or at
+-- 0 where that has no room
 pub record Sound (e : Ends) : Type 0 where
   pub ring : e .start + e .room ≤ entryCount
   pub few : e .waiting ≤ e .room
-  pub first : e .first < e .room
-  pub room : e .room ≤ mostRoom
+  pub first : e .first ≤ e .room - 1
 
 -- the rings of two queues have no common entry
 abbrev pub Apart : Ends → Ends → Type 0

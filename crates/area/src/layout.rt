@@ -49,7 +49,7 @@ pub const KEYS_START: usize = 3024;
 
 pub const RX_PLACES_START: usize = 4048;
 
-pub const ENTRIES_START: usize = 5328;
+pub const ENTRIES_START: usize = 5360;
 
 pub const PAYLOADS_START: usize = 6384;
 
@@ -75,10 +75,8 @@ pub const REQUESTS_START: usize = 256;
 
 pub const WAITER_RANGE: usize = 512;
 
-// how many entries all rings have, and what the room of one is brought below
-pub const ENTRY_COUNT: usize = 528;
-
-pub const MOST_ROOM: usize = 1024;
+// how many entries all rings have: one for each Tx frame, and one for the request of each Rx frame
+pub const ENTRY_COUNT: usize = 512;
 
 // a node's first row, and its row count, are below this; and a lookup finds no row past their sum
 pub const ROW_RANGE: usize = 512;

@@ -4,20 +4,18 @@ use crate::frames::rx_record_place;
 use crate::frames::tx_node;
 use crate::layout::ENTRIES_START;
 use crate::layout::ENTRY_COUNT;
-use crate::layout::MOST_ROOM;
 use crate::layout::QUEUES_START;
 use crate::layout::REQUESTS_START;
 use crate::layout::TX_RELOADS_START;
 use crate::layout::TX_TIMERS_START;
 use crate::layout::WAITER_RANGE;
 use crate::layout::WAITS_START;
-use base::at_most;
 use records::record::Entry;
 use records::record::RxNumber;
 use records::record::TxNumber;
 ghost use mathlib.Core.Path.{_≡_};
 ghost use Prim.Native.Nat.{_+_, _≤_, _<_};
-ghost use Rattle.area.specs.Layout.{payloadsStart, waiterRange, mostRoom, LongEnough};
+ghost use Rattle.area.specs.Layout.{payloadsStart, waiterRange, LongEnough};
 ghost use Rattle.area.specs.Queue.{endsOf, past, slot, entryAt, entryOf, added, removed, setEnds, queued, scheduled, requested, oldest, dequeued};
 
 // The ends of a queue: where its ring begins, how many entries the ring has room for, where the oldest is, and how many wait.
@@ -72,11 +70,11 @@ impl Ends {
 pub fn ends_at(area: &[u8], n: usize) -> Ends
     requires { ⌜ (n < 16) × LongEnough (now area) ⌝ }
     ensures { λ r. ⌜ (r ≡ endsOf (now (area .entry)) n) ×
-        (r .room ≤ mostRoom) × (r .first < 65536) × (r .waiting < 65536) × (r .start < 65536) ⌝ }
+        (r .room < 65536) × (r .first < 65536) × (r .waiting < 65536) × (r .start < 65536) ⌝ }
 {
     let at = QUEUES_START + 8 * n;
     let start = base::low_at(area, at);
-    let room = base::low_at(area, at + 2) % MOST_ROOM + 1;
+    let room = base::low_at(area, at + 2);
     let first = base::low_at(area, at + 4);
     let waiting = base::low_at(area, at + 6);
     Ends {
@@ -102,7 +100,7 @@ fn slot_of(e: Ends, i: usize) -> usize
     requires { ⌜ (e .start < 65536) × (i < 131072) ⌝ }
     ensures { λ r. ⌜ (r ≡ slot e i) × (r + 1 < payloadsStart) ⌝ }
 {
-    ENTRIES_START + 2 * at_most(ENTRY_COUNT - 1, e.start + i)
+    ENTRIES_START + 2 * ((e.start + i) % ENTRY_COUNT)
 }
 
 // What has this number joins node `n`'s queue at the end.

@@ -11,6 +11,10 @@ use Rattle.history.proofs.Strangers.{strangers-belong}
 use Rattle.refines.proofs.All.{as-the-model}
 use Rattle.refines.proofs.Once.{waits-once}
 use Rattle.refines.proofs.Listing.{listing-on-bytes}
+use Rattle.queues.proofs.Turns.{leaves-in-turn, as-if-at-once}
+use Rattle.queues.proofs.Room.{queue-room}
+use Rattle.queues.proofs.Slots.{waits-at-most}
+use Rattle.queues.proofs.Reached.{bound-reached}
 use Rattle.demands.proofs.Texts.{texts}
 use Rattle.demands.specs.Demand2.{Demand2}
 
@@ -26,6 +30,11 @@ demand-2 =
       ask-expiry = ask-expiry;
       ask-silence = ask-silence;
       once = waits-once;
+      in-turn = leaves-in-turn;
+      as-if-at-once = as-if-at-once;
+      room = queue-room;
+      waits-at-most = waits-at-most;
+      reached = bound-reached;
       long-timeouts = long-timeouts;
       gaps = gaps-answered;
       long-silences = long-silences;

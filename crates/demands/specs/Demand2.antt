@@ -1,7 +1,8 @@
 -- Demand 2: "Lookup, signal copy, timers, failure bits, timeout reports, sending order and every count answered are exactly the rules of Freescale
 -- AN3333 as document 01 states them: each rule's case is acted on, and nothing else is." And, of document 02, Ticket 1: "The long counter must start
 -- again at every accepted reception, so that a long timeout means that many expiries in a row." Ticket 4: "A lookup that finds nothing should say how
--- many of that node's rows have a smaller ID. Answer 1 carries this number". Ticket 2: the pumps on LIN.
+-- many of that node's rows have a smaller ID. Answer 1 carries this number". Ticket 2: the pumps on LIN. Ticket 14: "a node's queue never holds more than
+-- the frames and requests which can be scheduled on it".
 use Rattle.model.specs.Rules.{ModelMeets, RulesDecide}
 use Rattle.model.specs.Timers.{RxExpiry, AskExpiry, AskSilence, TxExpiry}
 use Rattle.model.specs.Listing.{ListingAnswered}
@@ -11,6 +12,10 @@ use Rattle.history.specs.LongTimeouts.{LongTimeouts, LongSilences}
 use Rattle.history.specs.Strangers.{StrangersBelong}
 use Rattle.refines.specs.Shows.{AsTheModel, WaitsOnce}
 use Rattle.refines.specs.Listing.{ListingOnBytes}
+use Rattle.queues.specs.Turns.{LeavesInTurn, AsIfAtOnce}
+use Rattle.queues.specs.Room.{QueueRoom}
+use Rattle.queues.specs.Slots.{WaitsAtMost}
+use Rattle.queues.specs.Reached.{BoundReached}
 use Rattle.demands.specs.Texts.{Texts}
 
 pub record Demand2 : Type 0 where
@@ -28,6 +33,15 @@ pub record Demand2 : Type 0 where
   pub ask-expiry : AskExpiry
   pub ask-silence : AskSilence
   pub once : WaitsOnce
+  -- "a frame with n ahead of it leaves at the (n + 1)-th unrefused take on its node, whatever else but an opening is called between": by the queue, and
+  -- by answers alone
+  pub in-turn : LeavesInTurn
+  pub as-if-at-once : AsIfAtOnce
+  -- "a node's queue never holds more than the frames and requests which can be scheduled on it, and cut our room to that"; how long one waits, by slots
+  -- of the bus; and that there are calls which fill a queue
+  pub room : QueueRoom
+  pub waits-at-most : WaitsAtMost
+  pub reached : BoundReached
   -- "a long timeout means that many expiries in a row": over any calls, from what the caller sees, and as a case
   pub long-timeouts : LongTimeouts
   pub gaps : GapsAnswered

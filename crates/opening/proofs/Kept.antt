@@ -13,7 +13,7 @@ use Rattle.records.specs.declared.record.TxFrame.{TxFrame}
 use Rattle.records.specs.declared.record.RxFrame.{RxFrame}
 use Rattle.records.specs.declared.record.Record.{Record}
 use Rattle.records.specs.declared.record.Record.the-variants.{Head, Node, Tx, Rx, Signal, Destination, Broken}
-use Rattle.area.specs.Layout.{orderByte, nodeCountByte, canCountByte, txCountBytes, rxCountBytes, nodesStart, planStart, mostRoom, queue}
+use Rattle.area.specs.Layout.{orderByte, nodeCountByte, canCountByte, txCountBytes, rxCountBytes, nodesStart, planStart, queue}
 use Rattle.opening.specs.Opened.{cleared, zeroed, laid, withTxTimer, withPayload, withFrame, withTx, withRxTimer, withRow, withNodeRow}
 use Rattle.opening.specs.Opened.{withRequest, withRx, withCan, withNode, withRecord, withRecords, ringsBefore, withRings, withFullness}
 
@@ -177,7 +177,7 @@ room-kept n k a =
     omega arith
 
 pub start-next :
-    (a b : List ℕ) (n start frames : ℕ) → b ≡ withRings n a → start ≡ ringsBefore a n → frames ≡ lowAt b (queue n + 2)
-    → start + (frames % mostRoom + 1) ≡ ringsBefore a (n + 1)
+    (a b : List ℕ) (n start room : ℕ) → b ≡ withRings n a → start ≡ ringsBefore a n → room ≡ lowAt b (queue n + 2)
+    → start + room ≡ ringsBefore a (n + 1)
 unfolding ringsBefore
-start-next a b n start frames is before read = rw (add-one n, read, is, room-kept n n a, before)
+start-next a b n start room is before read = rw (add-one n, read, is, room-kept n n a, before)

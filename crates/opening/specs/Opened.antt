@@ -137,7 +137,7 @@ pub record Passes (plan : List ℕ) (at next : ℕ) : Type 0 where
 
 -- ---- where the rings begin, and how full the frames are
 
--- the rings of the first n nodes, one after the other: each has room for its frames and requests, and one more
+-- the rings of the first n nodes, one after the other: each has room for its frames and requests
 unfoldable pub ringsBefore : List ℕ → ℕ → ℕ
 ringsBefore a zero = 0
 ringsBefore a (suc n) = ringsBefore a n + roomOf a n

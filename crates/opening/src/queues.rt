@@ -1,5 +1,4 @@
 // Where the queues' rings begin, and how full the Tx frames are.
-use area::layout::MOST_ROOM;
 use area::layout::full;
 use area::layout::queue;
 use base::low_at;
@@ -11,7 +10,7 @@ ghost use lib.ListN.{length};
 ghost use Rattle.area.specs.Layout.{LongEnough};
 ghost use Rattle.opening.specs.Opened.{withRings, withFullness};
 
-// The rings one after the other, each with room for its node's frames and requests, and one more.
+// The rings one after the other, each with room for its node's frames and requests.
 pub fn with_rings(area: &mut [u8])
     requires { ⌜ LongEnough (now area) ⌝ }
     ensures { λ u. ⌜ now (area .exit) ≡ withRings 16 (now (area .entry)) ⌝ }
@@ -20,9 +19,9 @@ pub fn with_rings(area: &mut [u8])
     let mut n = 0;
     while n < 16 {
         let at = queue(n);
-        let frames = low_at(area, at + 2);
+        let room = low_at(area, at + 2);
         put_low(area, at, start);
-        start += frames % MOST_ROOM + 1;
+        start += room;
         n += 1;
     }
 }

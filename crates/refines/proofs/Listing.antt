@@ -24,11 +24,11 @@ use Rattle.refines.proofs.All.{as-the-model}
 
 -- ---- the listing's plan is a list of bytes
 
-unfoldable small : List ℕ → Bool
+unfoldable pub small : List ℕ → Bool
 small [] = true
 small (x ∷ xs) = pick (ltb x 256) (small xs) false
 
-small-bytes : (xs : List ℕ) → small xs ≡ true → Bytes xs
+pub small-bytes : (xs : List ℕ) → small xs ≡ true → Bytes xs
 unfolding small
 small-bytes [] e i = omega arith
 small-bytes (x ∷ xs) e i =

@@ -84,7 +84,7 @@ shut a m (tick report) = (rw m, rw m)
 shut a m (take n) = (rw m, rw m)
 shut a m (fullness t) = (rw m, refl)
 
-follows : {plan a : List ℕ} {s : _} → Held plan a s → (c : Call) → Follows plan a s c
+pub follows : {plan a : List ℕ} {s : _} → Held plan a s → (c : Call) → Follows plan a s c
 follows {plan} h (reception n id payload) = reception-follows (lawful plan (h .good)) h n id payload
 follows {plan} h (response n id payload sum) = response-follows (lawful plan (h .good)) h n id payload sum
 follows {plan} h (noResponse n id) = silence-follows (lawful plan (h .good)) h n id

@@ -2,13 +2,13 @@
 use mathlib.Core.Path.{_≡_, sym}
 use mathlib.Core.Logic.{_≢_, _⊎_, inl, inr, ⊎-elim}
 use mathlib.Core.List.{List, [], _∷_, _++_}
-use Prim.Native.Nat.{ℕ, suc, _≤_, _<_}
+use Prim.Native.Nat.{ℕ, suc, _-_, _≤_, _<_}
 use native.Mathlib.Decide.{decLt}
 use native.Mathlib.Omega.{arith}
 use lib.ListN.{length, getD, length-append, List·getD-append}
 use lib.Seq.{getD-at}
 use Rattle.base.specs.Numbers.{byteAt}
-use Rattle.area.specs.Layout.{mostRoom, waits}
+use Rattle.area.specs.Layout.{waits}
 use Rattle.area.specs.Queue.{endsOf, queueOf}
 use Rattle.area.proofs.Kept.{Kept, room-kept}
 use Rattle.area.proofs.QueueLaws.{length-queueOf}
@@ -43,10 +43,6 @@ each-joined :
     (P : ℕ → Type 0) (q : List ℕ) (t : ℕ) → ((i : ℕ) → i < length q → P (getD q i 0)) → P t → (i : ℕ) → i < length (q ++ (t ∷ []))
     → P (getD (q ++ (t ∷ [])) i 0)
 each-joined P q t each last i h = ⊎-elim (λ x. rw (x .1) (each i (x .0))) (λ x. rw (x .1) last) (at-end q t i h)
-
-room-small : (a : List ℕ) (n : ℕ) → endsOf a n .room ≤ mostRoom
-unfolding endsOf
-room-small a n = omega arith
 
 module _ {plan a : List ℕ} {n : ℕ} where
   pub line-empty : Line plan a n []
@@ -88,7 +84,7 @@ module _ {plan a : List ℕ} {n : ℕ} where
 
   -- ---- so a node's queue is one of no more than can wait on it
 
-  line-few : Sendable plan → {q : List ℕ} → Line plan a n q → length q ≤ waitersOn plan n
+  pub line-few : Sendable plan → {q : List ℕ} → Line plan a n q → length q ≤ waitersOn plan n
   line-few fit {q} line =
       room-for-all plan n fit (λ i. getD q i 0) (length q) (line .can) (λ i j h l e. go i j h l e (decLt i j) (decLt j i))
     where
@@ -100,7 +96,7 @@ module _ {plan a : List ℕ} {n : ℕ} where
   pub line-of : Queue plan a n → Line plan a n (queueOf a n)
   line-of x = record { can = x .can; marked = x .marked; once = x .once }
 
-  pub queue-of : Holding plan a → n < 16 → endsOf a n .first < endsOf a n .room → Line plan a n (queueOf a n) → Queue plan a n
+  pub queue-of : Holding plan a → n < 16 → endsOf a n .first ≤ endsOf a n .room - 1 → Line plan a n (queueOf a n) → Queue plan a n
   queue-of holding h first line =
       let few = line-few (holding .fit) line in
       let ring = holding .rings n h in
@@ -109,7 +105,6 @@ module _ {plan a : List ℕ} {n : ℕ} where
           ring = ring .within;
           few = omega (arith, length-queueOf a n, ring .room);
           first = first;
-          room = room-small a n;
         };
         can = line .can;
         marked = line .marked;

@@ -22,7 +22,7 @@ pub record Queue (plan a : List ℕ) (n : ℕ) : Type 0 where
   pub marked : (i : ℕ) → i < length (queueOf a n) → byteAt a (waits (waiter a n i)) ≢ 0
   -- none stands in it twice: a frame and a request wait at most once
   pub once : (i j : ℕ) → i < j → j < length (queueOf a n) → waiter a n i ≢ waiter a n j
-  -- so there is always room for one more
+  -- so they are never more than can wait
   pub few : length (queueOf a n) ≤ waitersOn plan n
 
 -- number k stands in node n's queue

@@ -45,10 +45,10 @@ module _ {plan a : List ℕ} (ready : Ready plan a) (r : ℕ) (h : r < length (r
 
   module _ (free : byteAt a (waits k) ≡ 0) where
     pub joins : queueOf (requested a r) n ≡ queueOf a n ++ (k ∷ [])
-    joins = queue-requested a r n few below free ∙ rw here (queue-joins ready n k can)
+    joins = queue-requested a r n few below free ∙ rw here (queue-joins ready n k can free)
 
     pub stays : (m : ℕ) → m < 16 → m ≢ n → queueOf (requested a r) m ≡ queueOf a m
-    stays m l d = queue-requested a r m few l free ∙ rw here (queue-others ready n k can m l d)
+    stays m l d = queue-requested a r m few l free ∙ rw here (queue-others ready n k can free m l d)
 
     is-joined : requested a r ≡ joined a n k
     unfolding requested

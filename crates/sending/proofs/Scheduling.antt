@@ -45,10 +45,10 @@ module _ {plan a : List ℕ} (r : Ready plan a) (t : ℕ) (h : t < length (txOf 
 
   module _ (free : byteAt a (waits t) ≡ 0) where
     pub joins : queueOf b n ≡ queueOf a n ++ (t ∷ [])
-    joins = queue-scheduled a t n few below free ∙ rw here (queue-joins r n t can)
+    joins = queue-scheduled a t n few below free ∙ rw here (queue-joins r n t can free)
 
     pub stays : (m : ℕ) → m < 16 → m ≢ n → queueOf b m ≡ queueOf a m
-    stays m l d = queue-scheduled a t m few l free ∙ rw here (queue-others r n t can m l d)
+    stays m l d = queue-scheduled a t m few l free ∙ rw here (queue-others r n t can free m l d)
 
     -- it joins, and then its Tx timer moves
     parts : b ≡ set (joined a n t) (txTimer t) (byteAt a (txReload t))

@@ -77,7 +77,7 @@ module _ {plan a : List ℕ} (r : Ready plan a) (n : ℕ) (h : n < 16) (some : 0
       go (yes e) =
           let rest = line-left t line in
           rw e
-          (queue-of later h (sound-dequeued a n h (holding .size) (queues .queue n h .sound) .first)
+          (queue-of later h (sound-dequeued a n h (holding .size) (queues .queue n h .sound) some .first)
           (line-marked rest
           (λ i k. rw (mark-other (waiter b n i) (λ e. line .once 0 (suc i) (omega arith) (omega arith) (sym e))) (rest .marked i k))))
       go (no d) =

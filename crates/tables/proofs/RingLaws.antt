@@ -1,4 +1,4 @@
--- The rings of an opened area: each node's has room for all that can wait on it and one more, and begins where the one before it ends.
+-- The rings of an opened area: each node's has room for exactly those that can wait on it, and begins where the one before it ends.
 use mathlib.Core.Path.{_≡_, refl, _∙_}
 use mathlib.Core.Logic.{_≢_, _⊎_, inl, inr, ⊎-elim}
 use mathlib.Core.Bool.{Bool}
@@ -14,7 +14,7 @@ use Rattle.base.specs.Numbers.{lowAt}
 use Rattle.base.proofs.Picks.{both, by-eqb}
 use Rattle.records.specs.declared.record.TxFrame.{TxFrame}
 use Rattle.plan.specs.Rows.{Row}
-use Rattle.area.specs.Layout.{LongEnough, queue}
+use Rattle.area.specs.Layout.{entryCount, LongEnough, queue}
 use Rattle.area.specs.Queue.{endsOf}
 use Rattle.area.proofs.Frame.{Same, same-two}
 use Rattle.opening.specs.Opened.{ringsBefore, withRings}
@@ -94,15 +94,11 @@ rings-after b m (suc n) h =
 
 -- ---- the rings that are made of an area b, in which what can wait on each node is counted
 
-module _ (w : ℕ → ℕ) (most : (n : ℕ) → total w n ≤ 512) (b : List ℕ) (counted : (n : ℕ) → n < 16 → lowAt b (queue n + 2) ≡ w n) where
-  one-le : (n : ℕ) → w n ≤ 512
-  unfolding total
-  one-le n = omega (arith, most (suc n))
-
-  rings-before : (n : ℕ) → n ≤ 16 → ringsBefore b n ≡ total w n + n
+module _ (w : ℕ → ℕ) (most : (n : ℕ) → total w n ≤ entryCount) (b : List ℕ) (counted : (n : ℕ) → n < 16 → lowAt b (queue n + 2) ≡ w n) where
+  rings-before : (n : ℕ) → n ≤ 16 → ringsBefore b n ≡ total w n
   unfolding ringsBefore total
   rings-before zero h = omega arith
-  rings-before (suc n) h = omega (arith, rings-before n (omega arith), counted n (omega arith), one-le n)
+  rings-before (suc n) h = omega (arith, rings-before n (omega arith), counted n (omega arith))
 
   pub ring-start : LongEnough b → (n : ℕ) → n < 16 → lowAt (withRings 16 b) (queue n) ≡ ringsBefore b n
   unfolding withRings
@@ -110,26 +106,25 @@ module _ (w : ℕ → ℕ) (most : (n : ℕ) → total w n ≤ 512) (b : List �
       rows-at (λ k. withRings k b) queue (ringsBefore b) (λ k. refl) (omega arith) 16
       (λ k l. (omega arith, omega (arith, rings-before k (omega arith), most k))) 16 (omega arith) n h
 
-  pub ring-room : (n : ℕ) → n < 16 → endsOf (withRings 16 b) n .room ≡ w n + 1
+  pub ring-room : (n : ℕ) → n < 16 → endsOf (withRings 16 b) n .room ≡ w n
   unfolding endsOf
   ring-room n h =
       let s : Same (Room n) b (withRings 16 b) = same-rings 16 b (omega arith) in
-      let e = same-two s (queue n + 2) (omega arith) (omega arith) ∙ counted n h in
-      rw e (omega (arith, one-le n))
+      same-two s (queue n + 2) (omega arith) (omega arith) ∙ counted n h
 
-  pub ring-within : (n : ℕ) → n < 16 → ringsBefore b n + (w n + 1) ≤ 528
+  pub ring-within : (n : ℕ) → n < 16 → ringsBefore b n + w n ≤ entryCount
   unfolding total
   ring-within n h = omega (arith, rings-before n (omega arith), most (suc n))
 
-  ring-after : (m n : ℕ) → m < n → n < 16 → ringsBefore b m + (w m + 1) ≤ ringsBefore b n
+  ring-after : (m n : ℕ) → m < n → n < 16 → ringsBefore b m + w m ≤ ringsBefore b n
   unfolding endsOf
-  ring-after m n l h = omega (arith, rings-after b m n l, counted m (omega arith), one-le m)
+  ring-after m n l h = omega (arith, rings-after b m n l, counted m (omega arith))
 
   pub ring-apart :
       (m n : ℕ) → m < 16 → n < 16 → m ≢ n
-      → (ringsBefore b m + (w m + 1) ≤ ringsBefore b n) ⊎ (ringsBefore b n + (w n + 1) ≤ ringsBefore b m)
+      → (ringsBefore b m + w m ≤ ringsBefore b n) ⊎ (ringsBefore b n + w n ≤ ringsBefore b m)
   ring-apart m n h l d = go (decLt m n)
     where
-      go : Dec (m < n) → (ringsBefore b m + (w m + 1) ≤ ringsBefore b n) ⊎ (ringsBefore b n + (w n + 1) ≤ ringsBefore b m)
+      go : Dec (m < n) → (ringsBefore b m + w m ≤ ringsBefore b n) ⊎ (ringsBefore b n + w n ≤ ringsBefore b m)
       go (yes less) = inl (ring-after m n less l)
       go (no more) = inr (ring-after n m (omega arith) h)

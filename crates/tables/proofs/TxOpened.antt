@@ -18,7 +18,7 @@ use Rattle.facts.specs.Good.{GoodPlan}
 use Rattle.facts.proofs.GoodFacts.{good-facts}
 use Rattle.facts.proofs.Bounds.{good-bounds}
 use Rattle.facts.proofs.ByNumber.{good-types, cans-few}
-use Rattle.area.specs.Layout.{orderByte, nodeCountByte, canCountByte, txCountBytes, fullStart, planStart, lastPlace, waiterRange, LongEnough}
+use Rattle.area.specs.Layout.{orderByte, nodeCountByte, canCountByte, txCountBytes, fullStart, planStart, lastPlace, waiterRange, entryCount, LongEnough}
 use Rattle.area.specs.Layout.{queue, txTimer, waits, full, txPlace, payload, spot, order, typeOn, stored, txFrame}
 use Rattle.area.specs.Queue.{endsOf}
 use Rattle.area.proofs.Frame.{Same, same-two}
@@ -163,17 +163,16 @@ module _ (plan a : List ℕ) (n t r : ℕ) (good : checkPlan plan ≡ Good n t r
       (record { place = facts .place; ranges = facts .ranges; can = omega (arith, zeros canCountByte (omega arith) (omega arith)); size = long }) in
       e (omega (arith, few, facts .counts .rx, waiters-le (txOf plan) (rowsOf plan) (λ k. isLin (typeAt plan k)) k)) ∙ omega arith
 
-  most : (k : ℕ) → total (waitersOn plan) k ≤ 512
+  most : (k : ℕ) → total (waitersOn plan) k ≤ entryCount
   most k = omega (arith, few, facts .counts .rx, waiters-total (txOf plan) (rowsOf plan) (λ k. isLin (typeAt plan k)) k)
 
-  ring : (k : ℕ) → k < 16 → (endsOf (opened plan a) k .start ≡ ringsBefore recorded k) × (endsOf (opened plan a) k .room ≡ waitersOn plan k + 1)
+  ring : (k : ℕ) → k < 16 → (endsOf (opened plan a) k .start ≡ ringsBefore recorded k) × (endsOf (opened plan a) k .room ≡ waitersOn plan k)
   unfolding endsOf
-  ring k h =
-      let e = same-two low (queue k + 2) (omega arith) (omega arith) in (
-        same-two low (queue k) (omega arith) (omega arith)
-            ∙ ring-start (waitersOn plan) most recorded counted (omega (arith, left-blank .len, long)) k h,
-        rw e (ring-room (waitersOn plan) most recorded counted k h),
-      )
+  ring k h = (
+    same-two low (queue k) (omega arith) (omega arith)
+        ∙ ring-start (waitersOn plan) most recorded counted (omega (arith, left-blank .len, long)) k h,
+    same-two low (queue k + 2) (omega arith) (omega arith) ∙ ring-room (waitersOn plan) most recorded counted k h,
+  )
 
   pub opened-rings : (k : ℕ) → k < 16 → Rings plan (opened plan a) k
   opened-rings k h =

@@ -19,7 +19,7 @@ use Rattle.records.specs.Records.{records, eightBytes}
 use Rattle.records.specs.Nodes.{isLin}
 use Rattle.plan.specs.Check.{setsOf}
 use Rattle.plan.specs.Rows.{Row, noRow, rowsOf, txOf, nodesIn, typesIn, orderIn}
-use Rattle.area.specs.Layout.{waiterRange, LongEnough, txReload, rxReload, txTimer, rxTimer, long, waits, full, txMask, rxMask, spot, marked}
+use Rattle.area.specs.Layout.{waiterRange, entryCount, LongEnough, txReload, rxReload, txTimer, rxTimer, long, waits, full, txMask, rxMask, spot, marked}
 use Rattle.area.specs.Layout.{counter, order, nodeCount, typeOn, txCount, rxCount, firstRow, rowCount, keyAt, planOf, txFrame, rxFrame, claims}
 use Rattle.area.specs.Queue.{endsOf, Apart}
 
@@ -82,10 +82,10 @@ pub record NodeTable (plan a : List ℕ) (n : ℕ) : Type 0 where
   pub theirs : (i : ℕ) → i < rowCount a n → rowAt plan (firstRow a n + i) .frame .node ≡ n
   pub all : (r : ℕ) → r < length (rowsOf plan) → rowAt plan r .frame .node ≡ n → (firstRow a n ≤ r) × (r < firstRow a n + rowCount a n)
 
--- each node has a ring of its own, with room for all that can wait on it and one more
+-- each node has a ring of its own, with room for exactly those that can wait on it
 pub record Rings (plan a : List ℕ) (n : ℕ) : Type 0 where
-  pub within : endsOf a n .start + endsOf a n .room ≤ 528
-  pub room : endsOf a n .room ≡ waitersOn plan n + 1
+  pub within : endsOf a n .start + endsOf a n .room ≤ entryCount
+  pub room : endsOf a n .room ≡ waitersOn plan n
   pub apart : (m : ℕ) → m < 16 → m ≢ n → Apart (endsOf a m) (endsOf a n)
 
 pub record Reads (plan a : List ℕ) : Type 0 where

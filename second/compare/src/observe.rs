@@ -14,6 +14,7 @@ use second::taken::Taken;
 use crate::age_rows::AgeRows;
 use crate::lin_rows::LinRows;
 use crate::long_counters::LongCounters;
+use crate::queue_rows::QueueRows;
 use crate::shapes::Case;
 use crate::tally::{made_row, Tally, COPIED, INPUT_LENGTHS, LIMITS, PRESCALERS};
 
@@ -78,6 +79,7 @@ impl Tally {
         let mut long_counters = LongCounters::new(&plan);
         let mut age_rows = AgeRows::new(&plan);
         let mut lin_rows = LinRows::new(&plan, &gateway);
+        let mut queue_rows = QueueRows::new(&plan);
         let mut ticks = 0;
         let mut rest = events;
         while !rest.is_empty() {
@@ -102,6 +104,7 @@ impl Tally {
                     self.reception_order(&plan, (node, id), length, answer);
                     long_counters.reception(self, node, id, answer);
                     age_rows.reception(node, id, data, answer);
+                    queue_rows.received(self, &gateway, (node, id), answer);
                     if let Some(rows) = &mut lin_rows {
                         rows.received(self, &gateway, event, answer);
                     }
@@ -120,6 +123,7 @@ impl Tally {
                     self.response_order(&plan, (node, id), (length, &data, checksum), answer);
                     long_counters.reception(self, node, id, answer);
                     age_rows.reception(node, id, data, answer);
+                    queue_rows.received(self, &gateway, (node, id), answer);
                     if let Some(rows) = &mut lin_rows {
                         rows.received(self, &gateway, event, answer);
                     }
@@ -128,13 +132,16 @@ impl Tally {
                     let answer = self.silent(&mut gateway, node, id);
                     self.no_response_order(&plan, (node, id), answer);
                     long_counters.silent(self, node, id, answer);
+                    queue_rows.silent(answer);
                     if let Some(rows) = &mut lin_rows {
                         rows.silent(self, &gateway, (node, id), answer);
                     }
                 }
                 Event::Tick => {
                     ticks += 1;
+                    queue_rows.before_tick(&gateway);
                     let report = self.tick(&mut gateway);
+                    queue_rows.tick(self, &gateway);
                     let requests = match &mut lin_rows {
                         Some(rows) => rows.tick(self, &gateway),
                         None => Vec::new(),
@@ -143,7 +150,9 @@ impl Tally {
                     age_rows.tick();
                 }
                 Event::Take { node } => {
-                    let taken = self.take(&mut gateway, node);
+                    let answer = self.take(&mut gateway, node);
+                    queue_rows.take(self, node, &answer);
+                    let taken = answer.ok().flatten();
                     if let Some(Taken::Frame(frame)) = &taken {
                         age_rows.take(self, frame);
                     }
@@ -154,6 +163,7 @@ impl Tally {
             }
             rest = after;
         }
+        queue_rows.end(self);
         if ticks > 160 {
             self.met("cases of more than 160 ticks");
         }
@@ -282,8 +292,8 @@ impl Tally {
         report
     }
 
-    /// Answers what was taken.
-    fn take(&mut self, gateway: &mut Gateway, node: u8) -> Option<Taken> {
+    /// Answers what the take answers.
+    fn take(&mut self, gateway: &mut Gateway, node: u8) -> Result<Option<Taken>, Refusal> {
         let answer = gateway.take(node);
         match &answer {
             Err(refusal) => self.met(&format!("take refused {}", refusal.number())),
@@ -297,7 +307,7 @@ impl Tally {
                 }
             }
         }
-        answer.ok().flatten()
+        answer
     }
 
     /// Answers what "no response" answers.

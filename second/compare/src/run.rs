@@ -7,14 +7,14 @@ use std::sync::{Mutex, PoisonError};
 use std::thread;
 
 use crate::ask::ask;
-use crate::lines::too_old;
+use crate::lines::broken;
 use crate::shapes::{Case, Shapes};
 use crate::tally::Tally;
 
 /// After so many differences the run stops.
 const MOST_DIFFERENCES: usize = 5;
 
-/// A case on which the two programs differ, or the command's fix is too old.
+/// A case on which the two programs differ, or the command's lines cannot be.
 pub struct Difference {
     pub case: Case,
     pub what: String,
@@ -92,11 +92,12 @@ fn differs(input: &[u8], command: &[String]) -> Option<String> {
     }
 }
 
-/// How the output differs from the second program's, and where it breaks
-/// Ticket 8's sentence, also if the second program breaks it too.
+/// How the output differs from the second program's, and where it breaks the
+/// sentences of Tickets 8 and 14, also if the second program breaks them too.
 pub fn faults(input: &[u8], expected: &[u8], output: &[u8]) -> Option<String> {
     let difference = (output != expected).then(|| first_difference(expected, output));
-    let faults = [difference, too_old(input, output)];
+    let [too_old, out_of_turn] = broken(input, output);
+    let faults = [difference, too_old, out_of_turn];
     let faults: Vec<String> = faults.into_iter().flatten().collect();
     (!faults.is_empty()).then(|| faults.concat())
 }

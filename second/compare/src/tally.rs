@@ -1,17 +1,19 @@
 //! What the cases met: a table of counts, each of which must be above 0, and
 //! of pairs, all of which must be met: the positions and sizes of signals
-//! copied, the places of strangers, the sources at their oldest, and the IDs of
-//! responses.
+//! copied, the places of strangers, the sources at their oldest, the IDs of
+//! responses, full queues, and those ahead in a queue.
 
 use std::collections::{BTreeMap, BTreeSet};
 
+use crate::leaving_rows::{self, LEAVING_PAIRS};
+use crate::room_rows::{self, ROOM_PAIRS};
 use crate::shapes::Shapes;
 use crate::{checksums, lin_orders, lin_plans, lin_rows};
 
 pub struct Tally {
     counts: BTreeMap<String, u64>,
     /// The pairs of each row that counts pairs: those of `COPIED`, `PLACES`,
-    /// `OLDEST` and `LIN_IDS`.
+    /// `OLDEST`, `LIN_IDS`, `ROOM_PAIRS` and `LEAVING_PAIRS`.
     pairs: BTreeMap<&'static str, BTreeSet<(usize, usize)>>,
 }
 
@@ -158,6 +160,8 @@ fn sections() -> Vec<(&'static str, Vec<String>)> {
         ("LIN: calls", lin_orders::rows()),
         ("LIN: checksums", checksums::rows()),
         ("LIN: requests and frames", lin_rows::rows()),
+        ("room of a queue", room_rows::rows()),
+        ("leaving order of a queue", leaving_rows::rows()),
         (
             "pairs of a position and a size of a signal, of 2080",
             copied(),
@@ -360,6 +364,7 @@ pub fn made_row(shape: &str) -> String {
         Some(("restarts", _)) => "receptions between expiries of a long count",
         Some(("places", _)) => "strangers at every place of every node",
         Some(("ages", _)) => "takes around the expiry of a source",
+        Some(("queues", _)) => "queues filled, wrapped and drained",
         Some(("lin", _)) => "LIN nodes, their calls and requests",
         Some(("field", _)) => "a field at or past the end of its range",
         Some(("follower", _)) => "a missing or bad follower",
@@ -380,7 +385,9 @@ fn rows() -> Vec<String> {
 fn least_count(row: &str) -> u64 {
     let copied = COPIED.iter().flat_map(|[from, to, _]| [from, to]);
     let copied = copied.map(|side| (*side, PAIRS));
-    let mut all_pairs = copied.chain(PLACES).chain(OLDEST).chain([LIN_IDS]);
+    let of_queues = ROOM_PAIRS.into_iter().chain(LEAVING_PAIRS);
+    let others = PLACES.into_iter().chain(OLDEST).chain([LIN_IDS]);
+    let mut all_pairs = copied.chain(others).chain(of_queues);
     let of_row = all_pairs.find(|(name, _)| *name == row);
     of_row.map_or(1, |(_, pairs)| pairs)
 }
@@ -449,14 +456,17 @@ impl Tally {
     /// Counts one for the row. A row that is not in the table is a mistake of
     /// this program.
     pub fn met(&mut self, row: &str) {
+        self.met_times(row, 1);
+    }
+
+    pub fn met_times(&mut self, row: &str, times: u64) {
         match self.counts.get_mut(row) {
-            Some(count) => *count += 1,
+            Some(count) => *count += times,
             None => panic!("no row {row:?} in the table"),
         }
     }
 
-    /// Counts the pair for a row of `COPIED`, `PLACES`, `OLDEST` or `LIN_IDS`,
-    /// where it counts once.
+    /// Counts the pair for a row that counts pairs, where it counts once.
     pub fn met_pair(&mut self, row: &'static str, one: usize, other: usize) {
         self.pairs.entry(row).or_default().insert((one, other));
     }

@@ -145,6 +145,11 @@ impl Gateway {
         &self.queues[node]
     }
 
+    /// What a Tx timer holds.
+    pub fn tx_timer(&self, tx_number: usize) -> u8 {
+        self.tx_states[tx_number].timer.count
+    }
+
     /// What an Rx timer holds.
     pub fn rx_timer(&self, rx_number: usize) -> u8 {
         self.rx_states[rx_number].timer.count

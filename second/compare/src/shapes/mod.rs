@@ -19,9 +19,11 @@ mod lin_sources;
 mod order_of_tests;
 mod owners;
 mod places;
+mod queues;
 mod records;
 mod restarts;
 mod showcase;
+mod turns;
 
 use crate::rng::{mix, Rng};
 
@@ -79,6 +81,8 @@ impl Shapes {
         special.extend(lin_requests::shapes());
         special.extend(lin_sources::shapes());
         special.extend(lin_plans::shapes());
+        special.extend(queues::shapes());
+        special.extend(turns::shapes());
 
         let mut ordinary = Vec::new();
         let mut shapes = Vec::new();

@@ -5,21 +5,48 @@ pub type Changes = &'static [(&'static str, &'static str, &'static str)];
 pub struct Mistake {
     pub name: &'static str,
     pub changes: Changes,
-    /// Whether a fix can be too old, or a bit not that of the last acceptance.
-    pub breaks_the_age: bool,
+    pub breaks: Option<Sentence>,
 }
+
+/// A ticket's sentence that the command's lines can break.
+#[derive(Clone, Copy)]
+pub struct Sentence {
+    /// How the names of the shapes begin that are made for it.
+    pub shapes: &'static [&'static str],
+    /// How the comparison begins to say so.
+    pub said: &'static str,
+}
+
+/// A fix can be too old, or a bit not that of the last acceptance.
+const AGE: Sentence = Sentence {
+    shapes: &["ages: "],
+    said: "\nage of a fix, line ",
+};
+
+/// More wait than can, or one leaves out of turn.
+const QUEUE: Sentence = Sentence {
+    shapes: &["queues: ", "lin: 256 frames"],
+    said: "\nqueue room, line ",
+};
 
 pub const fn mistake(name: &'static str, changes: Changes) -> Mistake {
     Mistake {
         name,
         changes,
-        breaks_the_age: false,
+        breaks: None,
     }
 }
 
 pub const fn of_the_age(name: &'static str, changes: Changes) -> Mistake {
     Mistake {
-        breaks_the_age: true,
+        breaks: Some(AGE),
+        ..mistake(name, changes)
+    }
+}
+
+pub const fn of_the_queue(name: &'static str, changes: Changes) -> Mistake {
+    Mistake {
+        breaks: Some(QUEUE),
         ..mistake(name, changes)
     }
 }
@@ -126,6 +153,11 @@ pub const MISTAKES: &[Mistake] = &[
                 "gateway.rs",
                 "pub fn rx_timer(&self, rx_number: usize) -> u8 {",
                 "pub fn rx_timer(&self, rx_number: usize) -> u16 {",
+            ),
+            (
+                "gateway.rs",
+                "pub fn tx_timer(&self, tx_number: usize) -> u8 {",
+                "pub fn tx_timer(&self, tx_number: usize) -> u16 {",
             ),
         ],
     ),

@@ -3,14 +3,15 @@
 //! The second program itself stays clean: for each mistake its sources are
 //! copied, the text of the copy is changed, the copy is built, and the
 //! comparison must find a difference within 2,000 cases. Where the mistake
-//! breaks Ticket 8's sentence, that must be found too, by the cases that are
-//! made for it. The unchanged copy must agree.
+//! breaks a sentence of Ticket 8 or 14, that must be found too, by the cases that
+//! are made for it. The unchanged copy must agree.
 //!
 //! `cargo test --offline --test mistakes -- --nocapture` prints the results.
 
 mod ages;
 mod lin;
 mod list;
+mod queues;
 
 use std::fs;
 use std::path::{Path, PathBuf};
@@ -19,7 +20,8 @@ use std::process::{Command, Output};
 use ages::AGES;
 use compare::shapes::Shapes;
 use lin::LIN;
-use list::{Mistake, MISTAKES};
+use list::{Mistake, Sentence, MISTAKES};
+use queues::QUEUES;
 
 const SOURCES: [&str; 13] = [
     "Cargo.toml",
@@ -89,14 +91,15 @@ fn last_line(output: &Output) -> String {
     said.lines().last().unwrap_or("no output").to_string()
 }
 
-/// Whether a case of the shapes for the age of a fix has one that is too old.
-fn has_old_fix(shapes: &Shapes, program: &Path) -> bool {
-    let of_ages = |(_, name): &(u64, &str)| name.starts_with("ages: ");
-    let mut of_ages = (0..).zip(shapes.names()).filter(of_ages);
-    of_ages.any(|(index, _)| {
+/// Whether a case of the shapes for the sentence breaks it.
+fn is_broken(sentence: Sentence, shapes: &Shapes, program: &Path) -> bool {
+    let starts = sentence.shapes;
+    let is_own = |(_, name): &(u64, &str)| starts.iter().any(|start| name.starts_with(start));
+    let mut own = (0..).zip(shapes.names()).filter(is_own);
+    own.any(|(index, _)| {
         let seed = shapes.case_seed(1, index).to_string();
         let output = compare(&["--case-seed", &seed], program);
-        String::from_utf8_lossy(&output.stdout).contains("\nage of a fix, line ")
+        String::from_utf8_lossy(&output.stdout).contains(sentence.said)
     })
 }
 
@@ -122,18 +125,28 @@ fn the_unchanged_program_agrees() {
 
 #[test]
 fn every_planted_mistake_is_found() {
+    find_all(MISTAKES.iter().chain(AGES).chain(LIN), "mistake");
+}
+
+#[test]
+fn every_planted_mistake_of_queues_is_found() {
+    find_all(QUEUES, "queues");
+}
+
+/// Plants the mistakes in copies of this name.
+fn find_all<'m>(mistakes: impl IntoIterator<Item = &'m Mistake>, name: &str) {
     let shapes = Shapes::all();
     let mut missed = Vec::new();
-    let mistakes = MISTAKES.iter().chain(AGES).chain(LIN);
-    for (number, mistake) in mistakes.enumerate() {
-        let copy = copy_second(&format!("mistake-{number}"));
+    for (number, mistake) in mistakes.into_iter().enumerate() {
+        let copy = copy_second(&format!("{name}-{number}"));
         plant(&copy, mistake);
         let program = build(&copy);
         let output = compare(&["--seed", "1"], &program);
         println!("{}: {}", mistake.name, last_line(&output));
         let said = String::from_utf8_lossy(&output.stdout);
         let found = output.status.code() == Some(1) && said.contains("DIFFERENCE");
-        if !found || mistake.breaks_the_age && !has_old_fix(&shapes, &program) {
+        let is_broken = |sentence| is_broken(sentence, &shapes, &program);
+        if !found || !mistake.breaks.is_none_or(is_broken) {
             missed.push(mistake.name);
         }
         fs::remove_dir_all(&copy).ok();

@@ -11,4 +11,4 @@ returns c = (cc, omega arith)
 
 pub slot-of-spec : {M : Type 1} → statement M
 slot-of-spec =
-    tie.close (tie.spec (λ c. search needs) (λ c. search needs) (λ c κs. search needs) (λ c. search needs) (λ c. search needs) returns)
+    tie.close (tie.spec (λ c. search needs) (λ c. search needs) (λ c. search needs) returns)

@@ -5,7 +5,6 @@ use native.Mathlib.Nat.{le-antisymm}
 use native.Mathlib.Numerals.{add-one}
 use native.Mathlib.Omega.{arith}
 use lib.ListN.{length}
-use Rattle.area.specs.Layout.{mostRoom}
 use Rattle.opening.specs.Opened.{ringsBefore, withRings}
 use Rattle.opening.proofs.Kept.{start-next}
 use borrow.Author.Needs.{needs}
@@ -14,7 +13,7 @@ use Rattle.opening.proofs.queues.with_rings.Tie as tie
 
 abbrev Inv-loop : tie.InvT-loop
 Inv-loop area₀ start₀ n₀ area start n =
-    (area ≡ withRings n area₀) × (n ≤ 16) × (length area ≡ length area₀) × (start ≡ ringsBefore area₀ n) × (start ≤ mostRoom * n)
+    (area ≡ withRings n area₀) × (n ≤ 16) × (length area ≡ length area₀) × (start ≡ ringsBefore area₀ n) × (start ≤ 65536 * n)
 
 abbrev μ-loop : tie.MeasureT-loop
 μ-loop area₀ start₀ n₀ area start n = 16 - n
@@ -39,4 +38,4 @@ pub with-rings-spec : {M : Type 1} → statement M
 with-rings-spec =
     tie.close
     (tie.spec Inv-loop μ-loop loop-holds (λ c κs. search needs) (λ c. search needs) (λ c κs. search needs) (λ c κs. search needs)
-    (λ c. search needs) (λ c. search needs) (λ c. search needs) (λ c. search needs) loop-again (λ c. search needs) returns)
+    (λ c. search needs) (λ c. search needs) (λ c. search needs) loop-again (λ c. search needs) returns)

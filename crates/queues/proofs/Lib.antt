@@ -1,0 +1,9 @@
+pub mod Opened
+pub mod Grows
+pub mod Taking
+pub mod Leaving
+pub mod Turns
+pub mod Schedulable
+pub mod Room
+pub mod Slots
+pub mod Reached

@@ -20,9 +20,9 @@ use Rattle.area.specs.Layout.{requestsStart, long, waits, txReload, rxReload, t
 use Rattle.area.specs.Queue.{scheduled}
 use Rattle.area.proofs.Frame.{Same, same-refl, same-then, same-set, NoEnds, NoRing, same-scheduled}
 use Rattle.area.proofs.Kept.{Kept, planned, kept-low, kept-refl}
-use Rattle.ticking.specs.Tick.{timed, txTick, txTicks, rxExpiry, rxTick, rxReport, rxTicks, reported}
-use Rattle.ticking.specs.Sixteen.{each, expiring, fell, markOf, marksOf, eachMarked, txStep, rxStep, stepReport}
-use Rattle.ticking.specs.Sixteen.{reportedFrom, putMarks, markedReport}
+use Rattle.ticking.specs.Tick.{timed, txTick, txTicks, rxExpiry, expiryReport, rxTick, rxReport, rxTicks, reported}
+use Rattle.ticking.specs.Sixteen.{each, expiring, fell, markOf, marksOf, eachMarked, txStep, rxStep}
+use Rattle.ticking.specs.Sixteen.{reportedFrom, cleared, markedReport}
 use Rattle.ticking.proofs.Positions.{Positions, positions-kept}
 use Rattle.ticking.proofs.TickFrame.{Missed, same-txTick, same-expiry, same-rxTick, kept-rxTick}
 use Rattle.ticking.proofs.Apart.{scheduled-apart, expiry-apart, report-apart, scheduled-stored}
@@ -63,28 +63,28 @@ module _ (t u : ℕ) (h : t < u) (l : u < 256) where
   tx-timer : Of u (txTimer t) → ⊥
   tx-timer = ⊎-elim (λ e. omega arith) (λ e. omega arith)
 
-  tx-same-after : (a : List ℕ) → Same (Of u) a (txStep 1 a t)
+  tx-same-after : (a : List ℕ) → Same (Of u) a (txStep a t)
   unfolding txStep pick
   tx-same-after a = same-then (same-set _ _ tx-timer (same-refl a)) (same-scheduled tx-ends tx-ring _ t tx-wait tx-timer)
 
   tx-same-turn : (k : ℕ) (a : List ℕ) → Same (Of u) a (txTick k a t)
   tx-same-turn k a = same-txTick tx-ends tx-ring k a t tx-wait tx-timer
 
-  tx-apart : (a : List ℕ) (v : ℕ) → txStep 1 (set a (txTimer u) v) t ≡ set (txStep 1 a t) (txTimer u) v
+  tx-apart : (a : List ℕ) (v : ℕ) → txStep (set a (txTimer u) v) t ≡ set (txStep a t) (txTimer u) v
   unfolding txStep pick
   tx-apart a v =
       let w = lowered (byteAt a (txReload t)) 1 in
       rw (getD-set-other a (txTimer u) (txReload t) v 0 (λ e. omega arith), set-comm a (txTimer u) (txTimer t) v w (λ e. omega arith))
       (scheduled-apart (txTimer u) v (omega arith) (omega arith) (set a (txTimer t) w) t (omega arith) (λ e. omega arith))
 
-tx-turn : (k : ℕ) (a : List ℕ) (t : ℕ) → t < 256 → txTick k a t ≡ pick (eqb (markOf k a t) 1) (txStep 1 (fell k a t) t) (fell k a t)
+tx-turn : (k : ℕ) (a : List ℕ) (t : ℕ) → t < 256 → txTick k a t ≡ pick (eqb (markOf k a t) 1) (txStep (fell k a t) t) (fell k a t)
 unfolding txTick timed markOf fell txStep pick
 tx-turn k a t h =
     let other : (v : ℕ) → byteAt (set a (txTimer t) v) (txReload t) ≡ byteAt a (txReload t) =
     λ v. getD-set-other a (txTimer t) (txReload t) v 0 (λ e. omega arith) in
     rw other (turn-parted (λ x. scheduled x t) a (txTimer t) (byteAt a (txReload t)) (noCommonBit k (byteAt a (txMask t))))
 
-tx-turns : (k : ℕ) → Turns k (λ t. t) (txStep 1) (txTick k) (λ a. Unit {0})
+tx-turns : (k : ℕ) → Turns k (λ t. t) txStep (txTick k) (λ a. Unit {0})
 tx-turns k =
     record {
       table = λ j n. refl;
@@ -97,18 +97,28 @@ tx-turns k =
       holds-fell = λ a t h i. tt;
     }
 
--- Tx timer t, which holds c, is handled: the code stores its count last
-pub step-expired :
-    (a : List ℕ) (t c : ℕ) → t < 256 → eqb c 1 ≡ true → set (scheduled a t) (txTimer t) (lowered (byteAt a (txReload t)) c) ≡ txStep c a t
+-- Tx timer t, which holds 1, is handled: the code schedules the frame first, which leaves the reload values, and stores the count last
+pub step-stored :
+    (a : List ℕ) (t : ℕ) → t < 256
+    → set (scheduled a t) (txTimer t) (lowered (byteAt (scheduled a t) (txReload t)) 1) ≡ txStep a t
 unfolding txStep lowered pick
-step-expired a t c h on = rw (eqb-true c 1 on) (scheduled-stored a t h)
+step-stored a t h =
+    let same : Same (λ j. j ≡ txReload t) a (scheduled a t) =
+    same-scheduled (λ n b j x y e. omega arith) (λ j x y e. omega arith) a t (λ e. omega arith) (λ e. omega arith) in
+    rw (same .at (txReload t) refl) (scheduled-stored a t h)
 
-pub step-stays : (a : List ℕ) (t c : ℕ) → eqb c 1 ≡ false → set a (txTimer t) (lowered (byteAt a (txReload t)) c) ≡ txStep c a t
-unfolding txStep
-step-stays a t c off = sym (passes _ _ _ off)
+-- Tx timer t at the counter k, where it is handled: by whether it expires
+module _ (k : ℕ) (a : List ℕ) (t : ℕ) (on : noCommonBit k (byteAt a (txMask t)) ≡ true) where
+  pub tx-expires : eqb (byteAt a (txTimer t)) 1 ≡ true → txStep a t ≡ txTick k a t
+  unfolding txTick timed txStep pick
+  tx-expires one = rw (on, eqb-true (byteAt a (txTimer t)) 1 one)
+
+  pub tx-falls : eqb (byteAt a (txTimer t)) 1 ≡ false → timed a (txReload t) (txTimer t) ≡ txTick k a t
+  unfolding txTick pick
+  tx-falls off = rw (on, off)
 
 module _ (k j : ℕ) (a b m : List ℕ) (n : ℕ) (e : n ≡ 16) (h : j + 16 ≤ 256) where
-  pub tx-sixteen : m ≡ marksOf k j n a → b ≡ each (fell k) j n a → eachMarked (txStep 1) m j 16 b ≡ each (txTick k) j 16 a
+  pub tx-sixteen : m ≡ marksOf k j n a → b ≡ each (fell k) j n a → eachMarked txStep m j 16 b ≡ each (txTick k) j 16 a
   tx-sixteen x y =
       let marks : m ≡ marksOf k j 16 a = rw e at x in
       let low : b ≡ each (fell k) j 16 a = rw e at y in
@@ -142,7 +152,7 @@ module _ (r u : ℕ) (h : r < u) (l : u < 256) where
   rx-missed : (a : List ℕ) → Positions a → Missed (Of (inTable u)) (rxFrame a r .position)
   rx-missed a p t x = let q = p r (omega arith) in ⊎-elim (λ e. omega arith) (λ e. omega arith)
 
-  rx-same-after : (a : List ℕ) → Positions a → Same (Of (inTable u)) a (rxStep 1 a r)
+  rx-same-after : (a : List ℕ) → Positions a → Same (Of (inTable u)) a (rxStep a r)
   unfolding rxStep pick
   rx-same-after a p =
       same-then (same-set _ _ rx-timer (same-refl a))
@@ -153,7 +163,7 @@ module _ (r u : ℕ) (h : r < u) (l : u < 256) where
   rx-same-turn k a p =
       same-rxTick rx-ends rx-ring k a r rx-timer rx-wait rx-long (rx-missed _ (positions-kept (kept-own a r _ (omega arith)) p))
 
-  rx-apart : (a : List ℕ) (v : ℕ) → rxStep 1 (set a (txTimer (inTable u)) v) r ≡ set (rxStep 1 a r) (txTimer (inTable u)) v
+  rx-apart : (a : List ℕ) (v : ℕ) → rxStep (set a (txTimer (inTable u)) v) r ≡ set (rxStep a r) (txTimer (inTable u)) v
   unfolding rxStep pick
   rx-apart a v =
       let p = txTimer (inTable u) in
@@ -161,7 +171,7 @@ module _ (r u : ℕ) (h : r < u) (l : u < 256) where
       rw (getD-set-other a p (rxReload r) v 0 (λ e. omega arith), set-comm a p (rxTimer r) v w (λ e. omega arith))
       (expiry-apart p v (omega arith) (omega arith) (set a (rxTimer r) w) r (omega arith))
 
-kept-after : (a : List ℕ) (r : ℕ) → r < 256 → Positions a → Kept a (rxStep 1 a r)
+kept-after : (a : List ℕ) (r : ℕ) → r < 256 → Positions a → Kept a (rxStep a r)
 unfolding rxStep pick
 kept-after a r h p =
     let s = kept-own a r (lowered (byteAt a (rxReload r)) 1) h in
@@ -172,7 +182,7 @@ kept-after a r h p =
 
 rx-turn :
     (k : ℕ) (a : List ℕ) (r : ℕ) → r < 256
-    → rxTick k a r ≡ pick (eqb (markOf k a (inTable r)) 1) (rxStep 1 (fell k a (inTable r)) r) (fell k a (inTable r))
+    → rxTick k a r ≡ pick (eqb (markOf k a (inTable r)) 1) (rxStep (fell k a (inTable r)) r) (fell k a (inTable r))
 unfolding rxTick timed markOf fell rxStep pick
 rx-turn k a r h =
     let e : txTimer (inTable r) ≡ rxTimer r = omega arith in
@@ -185,7 +195,7 @@ holds-fell : (k : ℕ) (a : List ℕ) (r : ℕ) → r < 256 → Positions a → 
 unfolding fell
 holds-fell k a r h p = positions-kept (kept-low (txTimer (inTable r)) _ (omega arith) (omega arith) (kept-refl a)) p
 
-rx-turns : (k : ℕ) → Turns k inTable (rxStep 1) (rxTick k) Positions
+rx-turns : (k : ℕ) → Turns k inTable rxStep (rxTick k) Positions
 rx-turns k =
     record {
       table = λ j n. omega arith;
@@ -200,32 +210,40 @@ rx-turns k =
 
 -- ---- the report
 
-report-parted : (h : Bool) (c w : ℕ) → pick h (pick (eqb c 1) w 0) 0 ≡ pick (eqb (expiring h c) 1) w (expiring h c)
+report-parted : (h : Bool) (c w : ℕ) → pick h (pick (eqb c 1) w 0) 0 ≡ pick (eqb (expiring h c) 1) w 0
 unfolding expiring pick
 report-parted false c w = refl
 report-parted true c w = go (ℕ-discrete c 1)
   where
-    go : Dec (c ≡ 1) → pick (eqb c 1) w 0 ≡ pick (eqb (pick (eqb c 1) 1 0) 1) w (pick (eqb c 1) 1 0)
+    go : Dec (c ≡ 1) → pick (eqb c 1) w 0 ≡ pick (eqb (pick (eqb c 1) 1 0) 1) w 0
     go (yes e) = rw e
     go (no d) = rw (ne-eqb c 1 d)
 
-turn-report :
-    (k : ℕ) (a : List ℕ) (r : ℕ) → r < 256
-    → rxReport k a r ≡ pick (eqb (markOf k a (inTable r)) 1) (stepReport 1 a r) (markOf k a (inTable r))
-unfolding rxReport markOf stepReport pick
+turn-report : (k : ℕ) (a : List ℕ) (r : ℕ) → r < 256 → rxReport k a r ≡ pick (eqb (markOf k a (inTable r)) 1) (expiryReport a r) 0
+unfolding rxReport markOf pick
 turn-report k a r h =
     let e : txTimer (inTable r) ≡ rxTimer r = omega arith in
     let f : txMask (inTable r) ≡ rxMask r = omega arith in
     rw (e, f) (report-parted (noCommonBit k (byteAt a (rxMask r))) (byteAt a (rxTimer r)) _)
 
-report-fell : (k : ℕ) (a : List ℕ) (u r : ℕ) → u < 256 → r < 256 → stepReport 1 (fell k a (inTable u)) r ≡ stepReport 1 a r
-unfolding fell stepReport pick
+report-fell : (k : ℕ) (a : List ℕ) (u r : ℕ) → u < 256 → r < 256 → expiryReport (fell k a (inTable u)) r ≡ expiryReport a r
+unfolding fell
 report-fell k a u r h l = report-apart (txTimer (inTable u)) _ (omega arith) (omega arith) a r l
 
 overwritten : (c : Bool) (xs : List ℕ) (p v w : ℕ) → pick c (set (set xs p v) p w) (set xs p v) ≡ set xs p (pick c w v)
 unfolding pick
 overwritten true xs p v w = set-set xs p v w
 overwritten false xs p v w = refl
+
+-- Rx timer r at the counter k, where it is handled: by whether it expires
+module _ (k : ℕ) (a : List ℕ) (r : ℕ) (on : noCommonBit k (byteAt a (rxMask r)) ≡ true) where
+  pub rx-expires : eqb (byteAt a (rxTimer r)) 1 ≡ true → (expiryReport a r ≡ rxReport k a r) × (rxStep a r ≡ rxTick k a r)
+  unfolding rxTick rxReport timed rxStep pick
+  rx-expires one = rw (on, eqb-true (byteAt a (rxTimer r)) 1 one) (refl, refl)
+
+  pub rx-falls : eqb (byteAt a (rxTimer r)) 1 ≡ false → (0 ≡ rxReport k a r) × (timed a (rxReload r) (rxTimer r) ≡ rxTick k a r)
+  unfolding rxTick rxReport pick
+  rx-falls off = rw (on, off) (refl, refl)
 
 module _ (m : List ℕ) (j : ℕ) where
   reports-set :
@@ -245,13 +263,13 @@ module _ (m : List ℕ) (j : ℕ) where
       rw (
         reports-fell k n u a report (omega arith) l p,
         marked-fell (rx-turns k) m j n u a (omega arith) l p,
-        report-fell k (eachMarked (rxStep 1) m j n a) u (j + n) l (omega arith),
+        report-fell k (eachMarked rxStep m j n a) u (j + n) l (omega arith),
       )
 
 reports-parted :
     (k : ℕ) (m : List ℕ) (j n : ℕ) (a report : List ℕ) → j + n ≤ 256 → Positions a → Marks (rx-turns k) m j n a
-    → markedReport m j n (each (fell k) (inTable j) n a) (putMarks m j n report) ≡ reportedFrom k j n a report
-unfolding each markedReport putMarks reportedFrom
+    → markedReport m j n (each (fell k) (inTable j) n a) (cleared j n report) ≡ reportedFrom k j n a report
+unfolding each markedReport cleared reportedFrom
 reports-parted k m j zero a report h p e = refl
 reports-parted k m j (suc n) a report h p e =
     let w = rx-turns k in
@@ -265,13 +283,13 @@ reports-parted k m j (suc n) a report h p e =
     let number : inTable j + n ≡ inTable u = omega arith in
     rw (
       number,
-      reports-fell m j k n u low (set (putMarks m j n report) u (byteAt m n)) (omega arith) (omega arith) q,
-      reports-set m j n low (putMarks m j n report) u (byteAt m n) (omega arith),
+      reports-fell m j k n u low (set (cleared j n report) u 0) (omega arith) (omega arith) q,
+      reports-set m j n low (cleared j n report) u 0 (omega arith),
       report-last,
       marked-fell w m j n u low (omega arith) (omega arith) q,
       area-last,
       report-fell k handled u u (omega arith) (omega arith),
-      overwritten (eqb (byteAt m n) 1) (reportedFrom k j n a report) u (byteAt m n) (stepReport 1 handled u),
+      overwritten (eqb (byteAt m n) 1) (reportedFrom k j n a report) u 0 (expiryReport handled u),
     ) (ap (set (reportedFrom k j n a report) u) (rw (mark-turn w m j n a (omega arith) p e) (sym (turn-report k handled u (omega arith)))))
 
 module _ (k j : ℕ) (a b m : List ℕ) (n : ℕ) (e : n ≡ 16) (h : j + 16 ≤ 256) (p : Positions a) (x : m ≡ marksOf k (256 + j) n a)
@@ -282,10 +300,10 @@ module _ (k j : ℕ) (a b m : List ℕ) (n : ℕ) (e : n ≡ 16) (h : j + 16 ≤
       let number : inTable (j + i) ≡ 256 + j + i = omega arith in
       rw (number, marks) (marks-at k (256 + j) 16 a i l (omega arith))
 
-  pub rx-sixteen : eachMarked (rxStep 1) m j 16 b ≡ each (rxTick k) j 16 a
+  pub rx-sixteen : eachMarked rxStep m j 16 b ≡ each (rxTick k) j 16 a
   rx-sixteen = let low : b ≡ each (fell k) (256 + j) 16 a = rw e at y in rw low (turns-parted (rx-turns k) m j 16 a h p rx-marks)
 
-  pub sixteen-reported : (report : List ℕ) → markedReport m j 16 b (putMarks m j 16 report) ≡ reportedFrom k j 16 a report
+  pub sixteen-reported : (report : List ℕ) → markedReport m j 16 b (cleared j 16 report) ≡ reportedFrom k j 16 a report
   sixteen-reported report =
       let low : b ≡ each (fell k) (256 + j) 16 a = rw e at y in rw low (reports-parted k m j 16 a report h p rx-marks)
 

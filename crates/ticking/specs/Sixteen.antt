@@ -51,22 +51,13 @@ unfoldable pub eachMarked : (List ℕ → ℕ → List ℕ) → List ℕ → ℕ
 eachMarked f m j zero a = a
 eachMarked f m j (suc n) a = pick (eqb (byteAt m n) 1) (f (eachMarked f m j n a) (j + n)) (eachMarked f m j n a)
 
--- ---- a timer that holds count is handled
+-- ---- a timer that holds 1 is handled: it expires
 
-unfoldable pub txStep : ℕ → List ℕ → ℕ → List ℕ
-txStep count a t =
-    pick (eqb count 1)
-    (scheduled (set a (txTimer t) (lowered (byteAt a (txReload t)) count)) t)
-    (set a (txTimer t) (lowered (byteAt a (txReload t)) count))
+unfoldable pub txStep : List ℕ → ℕ → List ℕ
+txStep a t = scheduled (set a (txTimer t) (lowered (byteAt a (txReload t)) 1)) t
 
-unfoldable pub rxStep : ℕ → List ℕ → ℕ → List ℕ
-rxStep count a r =
-    pick (eqb count 1)
-    (rxExpiry (set a (rxTimer r) (lowered (byteAt a (rxReload r)) count)) r)
-    (set a (rxTimer r) (lowered (byteAt a (rxReload r)) count))
-
-unfoldable pub stepReport : ℕ → List ℕ → ℕ → ℕ
-stepReport count a r = pick (eqb count 1) (expiryReport a r) 0
+unfoldable pub rxStep : List ℕ → ℕ → List ℕ
+rxStep a r = rxExpiry (set a (rxTimer r) (lowered (byteAt a (rxReload r)) 1)) r
 
 -- ---- the report of a part of the Rx timers
 
@@ -75,15 +66,15 @@ unfoldable pub reportedFrom : ℕ → ℕ → ℕ → List ℕ → List ℕ → 
 reportedFrom k j zero a report = report
 reportedFrom k j (suc n) a report = set (reportedFrom k j n a report) (j + n) (rxReport k (each (rxTick k) j n a) (j + n))
 
--- the marks go in first
-unfoldable pub putMarks : List ℕ → ℕ → ℕ → List ℕ → List ℕ
-putMarks m j zero report = report
-putMarks m j (suc n) report = set (putMarks m j n report) (j + n) (byteAt m n)
+-- zeros go in first
+unfoldable pub cleared : ℕ → ℕ → List ℕ → List ℕ
+cleared j zero report = report
+cleared j (suc n) report = set (cleared j n report) (j + n) 0
 
 -- and then what each expiry answers
 unfoldable pub markedReport : List ℕ → ℕ → ℕ → List ℕ → List ℕ → List ℕ
 markedReport m j zero a report = report
 markedReport m j (suc n) a report =
     pick (eqb (byteAt m n) 1)
-    (set (markedReport m j n a report) (j + n) (stepReport 1 (eachMarked (rxStep 1) m j n a) (j + n)))
+    (set (markedReport m j n a report) (j + n) (expiryReport (eachMarked rxStep m j n a) (j + n)))
     (markedReport m j n a report)

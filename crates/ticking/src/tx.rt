@@ -19,14 +19,15 @@ pub fn tx_ticks(area: &mut [u8], n: usize, k: u8)
     requires { ⌜ (n ≤ 256) × LongEnough (now area) ⌝ }
     ensures { λ r. ⌜ now (area .exit) ≡ txTicks k n (now (area .entry)) ⌝ }
 {
-    let mut t = 0;
-    while t + 16 <= n {
-        tx_sixteen(area, t, k);
-        t += 16;
+    // so many stand in full sixteens
+    let full = n - n % 16;
+    let mut from = 0;
+    while from < full {
+        tx_sixteen(area, from, k);
+        from += 16;
     }
-    while t < n {
+    for t in full..n {
         tx_tick(area, TxNumber(t), k);
-        t += 1;
     }
 }
 
@@ -44,11 +45,11 @@ fn tx_sixteen(area: &mut [u8], from: usize, k: u8)
 // Those of sixteen Tx timers that are marked expire; each of them holds 1.
 fn tx_expire(area: &mut [u8], from: usize, marks: &[u8])
     requires { ⌜ (from + 16 ≤ 256) × LongEnough (now area) × (16 ≤ length (now marks)) ⌝ }
-    ensures { λ r. ⌜ now (area .exit) ≡ eachMarked (txStep 1) (now (marks .entry)) from 16 (now (area .entry)) ⌝ }
+    ensures { λ r. ⌜ now (area .exit) ≡ eachMarked txStep (now (marks .entry)) from 16 (now (area .entry)) ⌝ }
 {
     for i in 0..16 {
         if marks[i] == 1 {
-            tx_step(area, TxNumber(from + i), 1);
+            tx_step(area, TxNumber(from + i));
         }
     }
 }
@@ -59,19 +60,21 @@ fn tx_tick(area: &mut [u8], t: TxNumber, k: u8)
     ensures { λ r. ⌜ now (area .exit) ≡ txTick k (now (area .entry)) (t .0) ⌝ }
 {
     if no_common_bit(k, area[tx_mask(t)]) {
-        let count = area[tx_timer(t)];
-        tx_step(area, t, count);
+        let s = clock::timer::step_timer(area[tx_reload(t)], area[tx_timer(t)]);
+        if s.expired {
+            tx_step(area, t);
+        } else {
+            area[tx_timer(t)] = s.count;
+        }
     }
 }
 
-// Tx timer `t`, which holds `count`, is handled; an expiry schedules the frame.
-fn tx_step(area: &mut [u8], t: TxNumber, count: u8)
+// Tx timer `t`, which holds 1, is handled: it expires, and the frame is scheduled.
+fn tx_step(area: &mut [u8], t: TxNumber)
     requires { ⌜ (t .0 < 256) × LongEnough (now area) ⌝ }
-    ensures { λ r. ⌜ now (area .exit) ≡ txStep count (now (area .entry)) (t .0) ⌝ }
+    ensures { λ r. ⌜ now (area .exit) ≡ txStep (now (area .entry)) (t .0) ⌝ }
 {
-    let s = clock::timer::step_timer(area[tx_reload(t)], count);
-    if s.expired {
-        schedule(area, t);
-    }
+    schedule(area, t);
+    let s = clock::timer::step_timer(area[tx_reload(t)], 1);
     area[tx_timer(t)] = s.count;
 }

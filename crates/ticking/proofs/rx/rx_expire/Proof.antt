@@ -13,7 +13,7 @@ use Rattle.ticking.proofs.rx.rx_expire.Tie as tie
 
 abbrev Inv-loop : tie.InvT-loop
 Inv-loop area₀ from marks report₀ i₀ area report i =
-    (area ≡ eachMarked (rxStep 1) marks from i area₀) × (report ≡ markedReport marks from i area₀ report₀) × (i ≤ 16)
+    (area ≡ eachMarked rxStep marks from i area₀) × (report ≡ markedReport marks from i area₀ report₀) × (i ≤ 16)
     × (length area ≡ length area₀) × (length report ≡ length report₀)
 
 abbrev μ-loop : tie.MeasureT-loop

@@ -1,27 +1,38 @@
--- `ticking::rx::rx_tick` meets its contract: by the mask.
+-- `ticking::rx::rx_tick` meets its contract: by the mask, and by whether the timer expires.
 use mathlib.Core.Path.{refl, sym, _∙_}
 use Rattle.base.specs.Pick.{pick}
-use Rattle.base.proofs.Picks.{picks}
+use Rattle.clock.specs.Timer.{expires}
 use Rattle.ticking.specs.Tick.{timed, rxTick, rxReport}
-use Rattle.ticking.specs.Sixteen.{rxStep, stepReport}
+use Rattle.ticking.proofs.Turns.{rx-expires, rx-falls}
 use borrow.Author.Needs.{needs}
 use Rattle.ticking.proofs.rx.rx_tick.Statement.{statement}
 use Rattle.ticking.proofs.rx.rx_tick.Tie as tie
 
 returns : tie.Need-returns
-unfolding rxTick rxReport timed rxStep stepReport
+unfolding expires
 returns c =
     let c2 = c .before .before in
     let c5 = c2 .before .before .before in
     let c7 = c5 .before .before in
-    let c9 = c7 .before .before in
-    let on = sym (rw (c9 .rx-mask .ensures) at (c7 .no-common-bit .ensures)) ∙ c5 .before .if1 .taken in
-    let step = rw (c5 .rx-timer .ensures) at (c2 .rx-step .ensures) in
-    (step .0 ∙ sym (picks _ _ _ on), step .1 ∙ sym (picks _ _ _ on))
+    let c11 = c7 .before .before .before .before in
+    let on = sym (rw (c11 .before .before .rx-mask .ensures) at (c11 .no-common-bit .ensures)) ∙ c7 .before .before .before .if1 .taken in
+    let one = sym (rw (c7 .rx-timer .ensures) at (c5 .step-timer .ensures .1)) ∙ c2 .before .before .if2 .taken in
+    let out = rx-expires _ _ _ on one in
+    (c2 .rx-step .ensures .0 ∙ out .0, c2 .rx-step .ensures .1 ∙ out .1)
 
 returns-2 : tie.Need-returns-2
-unfolding rxTick rxReport pick
+unfolding expires timed
 returns-2 c =
+    let c2 = c .before .before in
+    let c4 = c2 .before .before in
+    let c8 = c4 .before .before .before .before in
+    let on = sym (rw (c8 .before .before .rx-mask .ensures) at (c8 .no-common-bit .ensures)) ∙ c4 .before .before .before .if1 .taken in
+    let off = sym (rw (c4 .rx-timer .ensures) at (c2 .step-timer .ensures .1)) ∙ c .before .if2 .left in
+    rw (c .rx-timer2 .ensures, c2 .step-timer .ensures .0, c4 .before .before .rx-reload .ensures, c4 .rx-timer .ensures) (rx-falls _ _ _ on off)
+
+returns-3 : tie.Need-returns-3
+unfolding rxTick rxReport pick
+returns-3 c =
     let c3 = c .before .before .before in
     simp (← (c3 .rx-mask .ensures), ← (c .before .no-common-bit .ensures), c .if1 .left) (refl, refl)
 
@@ -29,4 +40,5 @@ pub rx-tick-spec : {M : Type 1} → statement M
 rx-tick-spec =
     tie.close
     (tie.spec (λ c κs. search needs) (λ c. search needs) (λ c κs. search needs) (λ c κs. search needs) (λ c. search needs) (λ c κs. search needs)
-    (λ c. search needs) returns returns-2)
+    (λ c. search needs) (λ c κs. search needs) (λ c κs. search needs) (λ c. search needs) returns (λ c κs. search needs) (λ c. search needs)
+    (λ c. search needs) returns-2 returns-3)

@@ -12,7 +12,7 @@ use Rattle.ticking.proofs.tx.tx_expire.Statement.{statement}
 use Rattle.ticking.proofs.tx.tx_expire.Tie as tie
 
 abbrev Inv-loop : tie.InvT-loop
-Inv-loop area₀ from marks i₀ area i = (area ≡ eachMarked (txStep 1) marks from i area₀) × (i ≤ 16) × (length area ≡ length area₀)
+Inv-loop area₀ from marks i₀ area i = (area ≡ eachMarked txStep marks from i area₀) × (i ≤ 16) × (length area ≡ length area₀)
 
 abbrev μ-loop : tie.MeasureT-loop
 μ-loop area₀ from marks i₀ area i = 16 - i
@@ -25,8 +25,8 @@ loop-again : tie.Need-loop-again Inv-loop μ-loop
 loop-again c =
     let l = c .before .before .before .loop in
     ⊎-elim
-    (λ w. (w .5 ∙ w .2 .ensures ∙ marked-on (txStep 1) _ _ _ _ _ (w .0 .taken) (l .inv .0), omega arith, ap length (w .5) ∙ w .2 .kept .0 ∙ l .inv .2))
-    (λ w. (w .1 ∙ marked-off (txStep 1) _ _ _ _ _ (w .0 .left) (l .inv .0), omega arith, ap length (w .1) ∙ l .inv .2)) (c .if1 .came)
+    (λ w. (w .5 ∙ w .2 .ensures ∙ marked-on txStep _ _ _ _ _ (w .0 .taken) (l .inv .0), omega arith, ap length (w .5) ∙ w .2 .kept .0 ∙ l .inv .2))
+    (λ w. (w .1 ∙ marked-off txStep _ _ _ _ _ (w .0 .left) (l .inv .0), omega arith, ap length (w .1) ∙ l .inv .2)) (c .if1 .came)
 
 returns : tie.Need-returns Inv-loop μ-loop
 returns c = let e = le-antisymm (c .before .loop .inv .1) (c .loop-test .left) in cc

@@ -22,7 +22,7 @@ returns-2 c =
     let c8 = c5 .before .before .before in
     let low = c5 .lower-timers .ensures in
     let none = none-at 16 _ (sym (c .before .any .ensures) ∙ c .if1 .left) in
-    sym (none-marked (txStep 1) _ (c8 .args .from) 16 _ none)
+    sym (none-marked txStep _ (c8 .args .from) 16 _ none)
     ∙ tx-sixteen (c8 .args .k) (c8 .args .from) _ _ _ _ (omega arith) (c8 .pre .0) (low .0) (low .1)
 
 pub tx-sixteen-spec : {M : Type 1} → statement M

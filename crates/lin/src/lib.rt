@@ -15,22 +15,23 @@ pub fn protected(id: usize) -> u8
 }
 
 // A sum with one byte more.
-fn carry(sum: u8, byte: u8) -> u8
+fn carry(sum: usize, byte: u8) -> usize
+    requires { ⌜ sum < 256 ⌝ }
     ensures { λ r. ⌜ (r ≡ carried sum byte) × (r < 256) ⌝ }
 {
-    let whole = wide(sum) + wide(byte);
-    (whole % 256 + whole / 256) as u8
+    let whole = sum + wide(byte);
+    whole % 256 + whole / 256
 }
 
 // The enhanced checksum. The carry is folded at each byte, so that data of any length has a sum.
 pub fn checksum(protected: u8, bytes: &[u8]) -> u8
     ensures { λ r. ⌜ r ≡ checksumOf protected (now (bytes .entry)) ⌝ }
 {
-    let mut sum = protected;
+    let mut sum = wide(protected);
     let mut i = 0;
     while i < bytes.len() {
         sum = carry(sum, bytes[i]);
         i += 1;
     }
-    255 - sum
+    (255 - sum) as u8
 }

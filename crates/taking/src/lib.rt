@@ -52,9 +52,9 @@ pub fn take(area: &mut [u8], node: usize) -> Taken
         return Taken::Nothing;
     }
     let number = oldest_of(area, ends);
-    let answer = answer_of(area, node, number, ends.waiting - 1);
+    // first, so that the answer is made where the queue's numbers are done with
     dequeue(area, node, ends, number);
-    answer
+    answer_of(area, node, number, ends.waiting - 1)
 }
 
 // What leaves node `n`'s queue, by its number; so many wait after it.

@@ -1,13 +1,14 @@
 -- Every call but a take on node n leaves that node's queue or adds to it at its end: this follows from the rules, for any gateway that meets them.
 use mathlib.Core.Path.{_≡_, refl, sym, ap, _∙_}
 use mathlib.Core.Logic.{_≢_, ⊎-elim}
-use mathlib.Core.List.{List, [], _∷_, _++_, map, append-nil, append-assoc}
+use mathlib.Core.List.{List, [], _∷_, _++_, map, append-assoc}
 use Prim.Native.Nat.{ℕ, _<_}
 use native.Mathlib.Decide.{ℕ-discrete}
 use lib.ListN.{getD}
 use Rattle.records.specs.declared.record.Entry.{Entry}
 use Rattle.records.specs.Nodes.{frame, request}
 use Rattle.plan.specs.Rows.{Source, copy, failure, Claim}
+use Rattle.sending.proofs.Longer.{Longer, longer-same, longer-then}
 use Rattle.model.specs.Plan.{Plan, txIn, rowIn}
 use Rattle.model.specs.State.{State, queueOn}
 use Rattle.model.specs.Calls.{Call, reception, response, noResponse, tick, take, fullness, Running}
@@ -18,24 +19,13 @@ use Rattle.model.proofs.Entries.{dec-in}
 use Rattle.model.proofs.AgreeReceptions.{dec-wanted}
 use Rattle.model.proofs.Outcomes.{reception-outcome, response-outcome, silence-outcome, tick-outcome, take-outcome, fullness-outcome}
 
--- some more stand behind those that stood there
-pub record Grows (old now : List Entry) : Type 0 where
-  pub new : List Entry
-  pub then : now ≡ old ++ new
-
-stays : {old now : List Entry} → now ≡ old → Grows old now
-stays {old} e = record { new = []; then = e ∙ sym (append-nil old) }
-
-grows-then : {x y z : List Entry} → Grows x y → Grows y z → Grows x z
-grows-then g h = record { new = g .new ++ h .new; then = rw (h .then, g .then, append-assoc) }
-
 -- where all queues stay, that of node n does
-same : (n : ℕ) {old now : List (List Entry)} → now ≡ old → Grows (getD old n []) (getD now n [])
-same n e = stays (ap (λ q. getD q n []) e)
+same : (n : ℕ) {old now : List (List Entry)} → now ≡ old → Longer (getD old n []) (getD now n [])
+same n e = longer-same (ap (λ q. getD q n []) e)
 
 module _ (p : Plan) (n : ℕ) where
   abbrev Adds : State → State → Type 0
-  Adds s x = Grows (queueOn s n) (queueOn x n)
+  Adds s x = Longer (queueOn s n) (queueOn x n)
 
   -- ---- the destinations of an acceptance
 
@@ -46,7 +36,7 @@ module _ (p : Plan) (n : ℕ) where
       go (no f) i e = same n (u .unwanted f .0)
       go (yes w) (yes i) e = same n (u .waiting i .0)
       go (yes w) (no i) (yes e) = rw e (record { new = frame t ∷ []; then = u .joins w i })
-      go (yes w) (no i) (no d) = stays (u .others n d)
+      go (yes w) (no i) (no d) = longer-same (u .others n d)
 
   put : (payload : List ℕ) (c : Claim) (s x : State) → Puts p payload c s x → Adds s x
   put payload c s x a = go (c .from) refl
@@ -58,7 +48,7 @@ module _ (p : Plan) (n : ℕ) where
   in-order : (payload : List ℕ) (cs : List Claim) (s x : State) → InOrder p payload cs s x → Adds s x
   unfolding InOrder
   in-order payload [] s x e = same n (ap (λ y. y .queues) e)
-  in-order payload (c ∷ cs) s x (m, a, b) = grows-then (put payload c s m a) (in-order payload cs m x b)
+  in-order payload (c ∷ cs) s x (m, a, b) = longer-then (put payload c s m a) (in-order payload cs m x b)
 
 -- ---- the calls
 
@@ -67,15 +57,15 @@ module _ (p : Plan) (g : Running) (meets : Runs p g) (s : State) (k : Shape p s)
   left : (x : State) → x ≡ s → Adds p n s x
   left x e = same n (ap (λ y. y .queues) e)
 
-  pub grows : (c : Call) → c ≢ take n → Grows (queueOn s n) (queueOn (g .next s c) n)
+  pub grows : (c : Call) → c ≢ take n → Longer (queueOn s n) (queueOn (g .next s c) n)
   grows (reception m i payload) d =
       ⊎-elim (λ (x, f, w). left _ (w .stays))
       (λ (r, x, f, w).
-      grows-then (same n (w .restarts .recounts .queues)) (in-order p n payload (rowIn p r .claims) (w .again) _ (w .puts)))
+      longer-then (same n (w .restarts .recounts .queues)) (in-order p n payload (rowIn p r .claims) (w .again) _ (w .puts)))
       (reception-outcome p g meets s k m i payload)
   grows (response m i payload sum) d =
       ⊎-elim (λ (x, f, w). left _ (w .stays))
-      (λ (r, x, w). grows-then (same n (w .recounts .queues)) (in-order p n payload (rowIn p r .claims) (w .again) _ (w .puts)))
+      (λ (r, x, w). longer-then (same n (w .recounts .queues)) (in-order p n payload (rowIn p r .claims) (w .again) _ (w .puts)))
       (response-outcome p g meets s k m i payload sum)
   grows (noResponse m i) d = ⊎-elim (λ (why, w). left _ (w .stays)) (λ (r, x, w). same n (w .queues)) (silence-outcome p g meets s k m i)
   grows (tick report) d =
@@ -85,5 +75,5 @@ module _ (p : Plan) (g : Running) (meets : Runs p g) (s : State) (k : Shape p s)
       record { new = map frame (j .frames) ++ map request (j .requests); then = j .then ∙ append-assoc (queueOn s n) _ _ })
       (tick-outcome p g meets s k report)
   grows (take m) d =
-      ⊎-elim (λ e. left _ e) (λ (e, rest, q, answer, payload, x). stays (x .others n (λ f. d (ap take (sym f))))) (take-outcome p g meets s k m)
+      ⊎-elim (λ e. left _ e) (λ (e, rest, q, answer, payload, x). longer-same (x .others n (λ f. d (ap take (sym f))))) (take-outcome p g meets s k m)
   grows (fullness t) d = left _ (fullness-outcome p g meets s k t)

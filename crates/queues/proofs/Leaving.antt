@@ -8,20 +8,20 @@ use native.Mathlib.Omega.{arith}
 use lib.ListN.{length, length-append, List·getD-append}
 use Rattle.records.specs.declared.record.Entry.{Entry}
 use Rattle.answers.specs.declared.Taken.{Taken}
+use Rattle.sending.proofs.Longer.{Longer}
 use Rattle.model.specs.Plan.{said}
 use Rattle.model.specs.Calls.{Call, call}
 use Rattle.history.specs.Calls.{areaAfter, stepped, afterIn}
 use Rattle.refines.specs.Shows.{waitingOn}
 use Rattle.queues.specs.Turns.{leaving, takeOn, takesOn, leavingAt, Ahead}
-use Rattle.queues.proofs.Opened.{Open, open-after}
-use Rattle.queues.proofs.Grows.{Grows}
+use Rattle.queues.proofs.Opened.{IsOpen, open-after}
 use Rattle.queues.proofs.Taking.{nobody, oldest, Turn, adds, takes, turn}
 
 module _ (n : ℕ) (e : Entry) where
   -- ---- places in a queue
 
   -- those that come stand behind it
-  ahead-grows : {a b : List ℕ} (k : ℕ) → Ahead a n k e → Grows (waitingOn a n) (waitingOn b n) → Ahead b n k e
+  ahead-grows : {a b : List ℕ} (k : ℕ) → Ahead a n k e → Longer (waitingOn a n) (waitingOn b n) → Ahead b n k e
   ahead-grows {a} k h g =
       record {
         waits = rw (g .then, length-append) (omega (arith, h .waits));
@@ -57,7 +57,7 @@ module _ (n : ℕ) (e : Entry) where
         record { leaves = rw t (λ l. h .leaves (omega arith)); until = rw t (λ l. rw same (h .until (omega arith))) }
 
   module _ {plan : List ℕ} (l : n < said plan .nodes) where
-    pub in-turn : (calls : List Call) (a : List ℕ) → Open plan a → (k : ℕ) → Ahead a n k e → Leaves a k calls
+    pub in-turn : (calls : List Call) (a : List ℕ) → IsOpen plan a → (k : ℕ) → Ahead a n k e → Leaves a k calls
     unfolding takesOn afterIn
     in-turn [] a o k h = record { leaves = λ m. absurd (omega arith); until = λ m. rw sub-zero h }
     in-turn (c ∷ cs) a o k h = go (turn o n l c) k h (in-turn cs (areaAfter a c) (open-after o c))

@@ -25,16 +25,16 @@ use Rattle.refines.proofs.Opened.{held-opened}
 use Rattle.refines.proofs.Worlds.{follows}
 
 -- the area shows a state of the plan
-pub record Open (plan a : List ℕ) : Type 0 where
+pub record IsOpen (plan a : List ℕ) : Type 0 where
   pub state : State
   pub held : Held plan a state
 
 -- ---- calls, none of them an opening
 
-pub open-after : {plan a : List ℕ} → Open plan a → (c : Call) → Open plan (areaAfter a c)
+pub open-after : {plan a : List ℕ} → IsOpen plan a → (c : Call) → IsOpen plan (areaAfter a c)
 open-after {plan} o c = record { state = nextOf (said plan) (o .state) c; held = follows (o .held) c .held }
 
-pub open-later : {plan a : List ℕ} → Open plan a → (cs : List Call) → Open plan (afterIn a (map call cs))
+pub open-later : {plan a : List ℕ} → IsOpen plan a → (cs : List Call) → IsOpen plan (afterIn a (map call cs))
 unfolding afterIn stepped
 open-later o [] = o
 open-later o (c ∷ cs) = open-later (open-after o c) cs
@@ -44,7 +44,7 @@ open-later o (c ∷ cs) = open-later (open-after o c) cs
 -- where a plan has been opened
 abbrev OpenIf : Option (List ℕ) → List ℕ → Type 0
 OpenIf none a = Unit {0}
-OpenIf (some plan) a = Bytes plan → Open plan a
+OpenIf (some plan) a = Bytes plan → IsOpen plan a
 
 -- a refused opening leaves all
 after-opening :
@@ -78,5 +78,5 @@ after-steps past (opening plan ∷ cs) a o = after-steps _ cs _ (after-opening p
 after-steps past (call c ∷ cs) a o =
     after-steps (pastAfter past (call c) a) cs (areaAfter a c) (rw (plan-stays past c a) (after-call (past .plan) a o c))
 
-pub opened : (a : List ℕ) (calls : List Step) (plan : List ℕ) → Bytes plan → pastOf calls a .plan ≡ some plan → Open plan (afterIn a calls)
+pub opened : (a : List ℕ) (calls : List Step) (plan : List ℕ) → Bytes plan → pastOf calls a .plan ≡ some plan → IsOpen plan (afterIn a calls)
 opened a calls plan bytes is = (rw is at (after-steps unopened calls a tt)) bytes

@@ -26,7 +26,7 @@ use Rattle.model.proofs.Upto.{in-left, in-right}
 use Rattle.refines.specs.Shows.{waitingOn}
 use Rattle.queues.specs.Turns.{leaving}
 use Rattle.queues.specs.Room.{Schedulable, all, many, Fits, QueueRoom}
-use Rattle.queues.proofs.Opened.{Open, opened}
+use Rattle.queues.proofs.Opened.{IsOpen, opened}
 use Rattle.queues.proofs.Taking.{stillWaiting, Taking, nobody, oldest, refused, taking}
 use Rattle.queues.proofs.Schedulable.{schedulable, many-are}
 
@@ -37,7 +37,7 @@ in-mapped f d y [] i = absurd i
 in-mapped f d y (x ∷ xs) (inl e) = (0, omega arith, e)
 in-mapped f d y (x ∷ xs) (inr i) = let w = in-mapped f d y xs i in (suc (w .0), omega (arith, w .1), w .2)
 
-module _ {plan a : List ℕ} (o : Open plan a) (n : ℕ) (l : n < 16) where
+module _ {plan a : List ℕ} (o : IsOpen plan a) (n : ℕ) (l : n < 16) where
   abbrev can : Schedulable (said plan) n
   can = schedulable plan n
 
@@ -91,7 +91,7 @@ module _ {plan a : List ℕ} (o : Open plan a) (n : ℕ) (l : n < 16) where
         after-request = λ x is. fewer (Request x) is (λ e. differ cc);
         room = ring .room ∙ sym (many-are plan n can);
         within = ring .within;
-        beside = ring .apart;
+        apart = ring .apart;
       }
 
 pub queue-room : QueueRoom

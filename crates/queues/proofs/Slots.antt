@@ -13,8 +13,8 @@ use Rattle.model.specs.Words.{In}
 use Rattle.history.specs.Calls.{areaAfter, stepped, afterIn}
 use Rattle.refines.proofs.Held.{below}
 use Rattle.queues.specs.Turns.{takesOn}
-use Rattle.queues.specs.Slots.{Slot, callsOf, WaitsAtMost}
-use Rattle.queues.proofs.Opened.{Open, open-after, open-later, opened}
+use Rattle.queues.specs.Slots.{BusSlot, callsOf, WaitsAtMost}
+use Rattle.queues.proofs.Opened.{IsOpen, open-after, open-later, opened}
 use Rattle.queues.proofs.Taking.{counts, taking}
 use Rattle.queues.proofs.Turns.{turns}
 use Rattle.queues.proofs.Room.{few}
@@ -27,13 +27,13 @@ takes-append n a (c ∷ cs) ds = rw (takes-append n (areaAfter a c) cs ds, appen
 
 module _ {plan : List ℕ} (n : ℕ) (l : n < said plan .nodes) where
   -- in an open area a take on a node that exists is not refused
-  some-take : (cs : List Call) (a : List ℕ) → Open plan a → In (take n) cs → 0 < length (takesOn n a cs)
+  some-take : (cs : List Call) (a : List ℕ) → IsOpen plan a → In (take n) cs → 0 < length (takesOn n a cs)
   unfolding In takesOn
   some-take [] a o i = absurd i
   some-take (c ∷ cs) a o (inl e) = rw (← e, counts (taking o n l)) (omega arith)
   some-take (c ∷ cs) a o (inr i) = rw length-append (omega (arith, some-take cs (areaAfter a c) (open-after o c) i))
 
-  one-each : (slots : List (List Call)) (a : List ℕ) → Open plan a → Each (Slot n) slots → length slots ≤ length (takesOn n a (callsOf slots))
+  one-each : (slots : List (List Call)) (a : List ℕ) → IsOpen plan a → Each (BusSlot n) slots → length slots ≤ length (takesOn n a (callsOf slots))
   unfolding Each callsOf takesOn
   one-each [] a o h = omega arith
   one-each (cs ∷ slots) a o h =

@@ -15,6 +15,7 @@ use Rattle.answers.specs.declared.Refusal.the-variants.{NoNode}
 use Rattle.answers.specs.declared.Taken.{Taken}
 use Rattle.answers.specs.declared.Taken.the-variants.{Nothing, Frame, Request, Refused}
 use Rattle.taking.specs.Taken.{takenAnswer}
+use Rattle.sending.proofs.Longer.{Longer}
 use Rattle.model.specs.Plan.{said}
 use Rattle.model.specs.State.{queueOn}
 use Rattle.model.specs.Calls.{Call, reception, response, noResponse, tick, take, fullness, taken, running}
@@ -24,8 +25,8 @@ use Rattle.history.specs.Calls.{answerIn, areaAfter}
 use Rattle.refines.specs.Shows.{waitingOn}
 use Rattle.refines.proofs.Worlds.{follows}
 use Rattle.queues.specs.Turns.{leaving, unrefused, takeOn}
-use Rattle.queues.proofs.Grows.{Grows, grows}
-use Rattle.queues.proofs.Opened.{Open}
+use Rattle.queues.proofs.Grows.{grows}
+use Rattle.queues.proofs.Opened.{IsOpen}
 
 -- how many still wait, by the answer of a take
 unfoldable pub stillWaiting : Taken → ℕ
@@ -54,11 +55,11 @@ counts {n} (oldest e rest tells q r) = picks _ _ _ (eq-eqb n n refl) ∙ tells .
 
 -- any call: it is no take on node n, or it is one
 pub data Turn (n : ℕ) (a : List ℕ) (c : Call) : Type 0 where
-  adds : takeOn n a c ≡ [] → Grows (waitingOn a n) (waitingOn (areaAfter a c) n) → Turn n a c
+  adds : takeOn n a c ≡ [] → Longer (waitingOn a n) (waitingOn (areaAfter a c) n) → Turn n a c
   takes : takeOn n a c ≡ takenAnswer a n ∷ [] → c ≡ take n → Taking n a → Turn n a c
 
-module _ {plan a : List ℕ} (o : Open plan a) (n : ℕ) where
-  open Open o using (state, held)
+module _ {plan a : List ℕ} (o : IsOpen plan a) (n : ℕ) where
+  open IsOpen o using (state, held)
 
   rules : TakeRules (said plan) (running (said plan)) state n
   rules = runs plan (held .good) .take state (held .shape) n

@@ -21,14 +21,14 @@ use Rattle.refines.proofs.Held.{below}
 use Rattle.sending.proofs.Queues.{waiter}
 use Rattle.sending.proofs.Entries.{entry-one}
 use Rattle.queues.specs.Turns.{leaving, takesOn, leavingAt, Ahead, InTurn, LeavesInTurn, atOnce, AsIfAtOnce}
-use Rattle.queues.proofs.Opened.{Open, open-after, opened}
+use Rattle.queues.proofs.Opened.{IsOpen, open-after, opened}
 use Rattle.queues.proofs.Taking.{Taking, nobody, oldest, counts, taking}
 use Rattle.queues.proofs.Leaving.{in-turn}
 
 module _ {plan : List ℕ} (n : ℕ) (l : n < said plan .nodes) where
   -- ---- one that is nearer to the front is another
 
-  module _ {a : List ℕ} (o : Open plan a) where
+  module _ {a : List ℕ} (o : IsOpen plan a) where
     -- what stands at a place is what has its number there
     numbered : (k : ℕ) (e : Entry) → Ahead a n k e → (k < length (queueOf a n)) × (entryOf (waiter a n k) ≡ e)
     numbered k e h =
@@ -63,7 +63,7 @@ module _ {plan : List ℕ} (n : ℕ) (l : n < said plan .nodes) where
 
   -- ---- takes at once tell what stands where
 
-  pub told : (k : ℕ) (a : List ℕ) → Open plan a → (e : Entry) → leavingAt k n a (atOnce n (suc k)) ≡ some e → Ahead a n k e
+  pub told : (k : ℕ) (a : List ℕ) → IsOpen plan a → (e : Entry) → leavingAt k n a (atOnce n (suc k)) ≡ some e → Ahead a n k e
   unfolding atOnce takesOn leaving
   told zero a o e f = here (taking o n l) (rw (counts (taking o n l)) at f)
     where

@@ -1,7 +1,7 @@
 -- "Show over any calls that a node's queue never holds more than the frames and requests which can be scheduled on it, and cut our room to that."
 -- (document 02, Ticket 14)
 use mathlib.Core.Path.{_≡_}
-use mathlib.Core.Logic.{_≢_, _⊎_}
+use mathlib.Core.Logic.{_≢_}
 use mathlib.Core.List.{List, map, _++_}
 use mathlib.Core.Option.{some}
 use Prim.Native.Nat.{ℕ, _+_, _≤_, _<_}
@@ -9,7 +9,7 @@ use lib.ListN.{length}
 use Rattle.base.specs.Numbers.{Bytes}
 use Rattle.records.specs.declared.record.Entry.{Entry}
 use Rattle.records.specs.Nodes.{frame, request}
-use Rattle.area.specs.Queue.{endsOf}
+use Rattle.area.specs.Queue.{endsOf, Apart}
 use Rattle.answers.specs.declared.TakenFrame.{TakenFrame}
 use Rattle.answers.specs.declared.TakenRequest.{TakenRequest}
 use Rattle.answers.specs.declared.Taken.the-variants.{Frame, Request}
@@ -46,10 +46,6 @@ all x = map frame (x .frames) ++ map request (x .requests)
 abbrev pub many : {p : Plan} {n : ℕ} → Schedulable p n → ℕ
 many x = length (x .frames) + length (x .requests)
 
--- the rings of two nodes have no entry in common
-abbrev pub Beside : List ℕ → ℕ → ℕ → Type 0
-Beside a m n = (endsOf a m .start + endsOf a m .room ≤ endsOf a n .start) ⊎ (endsOf a n .start + endsOf a n .room ≤ endsOf a m .start)
-
 -- of node n in an area in which a plan is open
 pub record Fits (plan a : List ℕ) (n : ℕ) : Type 0 where
   pub can : Schedulable (said plan) n
@@ -62,7 +58,7 @@ pub record Fits (plan a : List ℕ) (n : ℕ) : Type 0 where
   -- "cut our room to that": its ring has an entry for each of them and no more, its own, among the 512 that there are
   pub room : endsOf a n .room ≡ many can
   pub within : endsOf a n .start + endsOf a n .room ≤ 512
-  pub beside : (m : ℕ) → m < 16 → m ≢ n → Beside a m n
+  pub apart : (m : ℕ) → m < 16 → m ≢ n → Apart (endsOf a m) (endsOf a n)
 
 abbrev pub QueueRoom : Type 0
 QueueRoom =

@@ -17,8 +17,8 @@ use Rattle.queues.specs.Turns.{leavingAt, Ahead}
 use Rattle.queues.specs.Room.{Schedulable, many}
 
 -- a bus slot of node n: the calls that the driver makes in it, a take on the node among them
-abbrev pub Slot : ℕ → List Call → Type 0
-Slot n calls = In (take n) calls
+abbrev pub BusSlot : ℕ → List Call → Type 0
+BusSlot n calls = In (take n) calls
 
 -- the calls of some slots, one after the other
 unfoldable pub callsOf : List (List Call) → List Call
@@ -30,7 +30,7 @@ pub record AtMost (plan a : List ℕ) (n k : ℕ) (e : Entry) : Type 0 where
   -- no more are ahead of it than there are others that can be scheduled there
   pub ahead : (can : Schedulable (said plan) n) → k < many can
   -- and it has left when k + 1 slots are over
-  pub slots : (slots : List (List Call)) → Each (Slot n) slots → k < length slots → leavingAt k n a (callsOf slots) ≡ some e
+  pub slots : (slots : List (List Call)) → Each (BusSlot n) slots → k < length slots → leavingAt k n a (callsOf slots) ≡ some e
 
 abbrev pub WaitsAtMost : Type 0
 WaitsAtMost =

@@ -13,11 +13,12 @@ use Rattle.area.specs.Queue.{endsOf, added, queued, queueOf, Sound}
 use Rattle.area.proofs.Frame.{Same, same-refl, same-set, same-queued}
 use Rattle.area.proofs.Kept.{Kept, kept-queued, kept-low, room-kept}
 use Rattle.area.proofs.QueueLaws.{length-queueOf, queue-same, ends-queued, queue-queued, ends-queued-other, queue-queued-other}
+use Rattle.sending.proofs.Longer.{longer-same}
 use Rattle.sending.proofs.Waiters.{CanWait, wait-small, wait-node, one-node}
 use Rattle.sending.proofs.Queues.{waiter, Queue, Stands, Grows}
 use Rattle.sending.proofs.Holding.{Holding, holding-kept}
 use Rattle.sending.proofs.Lines.{Line, line-of, line-marked, line-joined, line-few, queue-of, queue-stays}
-use Rattle.sending.proofs.Moves.{Ready, Moves, first-same, grows-same, grows-stands}
+use Rattle.sending.proofs.Moves.{Ready, Moves, first-same, grows-stands}
 
 -- the area with number k at the end of node n's queue, and marked
 abbrev pub joined : List ℕ → ℕ → ℕ → List ℕ
@@ -93,7 +94,7 @@ module _ {plan a : List ℕ} (r : Ready plan a) (n k : ℕ) (can : CanWait plan 
     where
       go : Dec (m ≡ n) → Grows a b m
       go (yes e) = rw e (record { new = k ∷ []; then = same n below ∙ queue-joins })
-      go (no d) = grows-same (same m l ∙ queue-others m l d)
+      go (no d) = longer-same (same m l ∙ queue-others m l d)
 
   first : (m : ℕ) → m < 16 → endsOf b m .first ≡ endsOf a m .first
   unfolding added

@@ -1,5 +1,6 @@
 pub mod Plans
 pub mod Waiters
+pub mod Longer
 pub mod Queues
 pub mod Counting
 pub mod Room

@@ -1,7 +1,7 @@
 -- A change that only adds to the queues, at their ends: what it leaves of an area that holds a plan. Such changes follow one another, and one that
 -- leaves the queues, their rings and the marks of those that wait is one.
-use mathlib.Core.Path.{_≡_, refl, sym, _∙_}
-use mathlib.Core.List.{List, [], _++_, append-nil, append-assoc}
+use mathlib.Core.Path.{_≡_, refl}
+use mathlib.Core.List.{List}
 use Prim.Native.Nat.{ℕ, _+_, _≤_, _<_}
 use native.Mathlib.Omega.{arith}
 use lib.ListN.{length-append, List·getD-append}
@@ -12,6 +12,7 @@ use Rattle.area.proofs.Frame.{Same, same-two, same-fewer}
 use Rattle.area.proofs.Kept.{Kept, kept-refl, kept-then}
 use Rattle.area.proofs.QueueLaws.{queue-same}
 use Rattle.sending.proofs.Waiters.{wait-small, wait-node}
+use Rattle.sending.proofs.Longer.{longer-same, longer-then}
 use Rattle.sending.proofs.Queues.{waiter, Queues, Stands, Grows}
 use Rattle.sending.proofs.Holding.{Holding, holding-kept}
 use Rattle.sending.proofs.Lines.{queue-stays}
@@ -30,12 +31,6 @@ pub record Moves (plan a b : List ℕ) : Type 0 where
 -- ---- growth
 
 module _ {a : List ℕ} {n : ℕ} where
-  pub grows-same : {b : List ℕ} → queueOf b n ≡ queueOf a n → Grows a b n
-  grows-same e = record { new = []; then = e ∙ sym (append-nil (queueOf a n)) }
-
-  grows-then : {b c : List ℕ} → Grows a b n → Grows b c n → Grows a c n
-  grows-then g h = record { new = g .new ++ h .new; then = rw (h .then, g .then, append-assoc) }
-
   -- who stands in a queue stays there
   pub grows-stands : {b : List ℕ} {k : ℕ} → Grows a b n → Stands a n k → Stands b n k
   grows-stands g s =
@@ -49,7 +44,7 @@ module _ {a : List ℕ} {n : ℕ} where
 
 module _ {plan a : List ℕ} where
   pub moves-refl : Ready plan a → Moves plan a a
-  moves-refl r = record { kept = kept-refl a; queues = r .queues; grows = λ n h. grows-same refl }
+  moves-refl r = record { kept = kept-refl a; queues = r .queues; grows = λ n h. longer-same refl }
 
   moved : {b : List ℕ} → Ready plan a → Moves plan a b → Ready plan b
   moved r m = record { holding = holding-kept (m .kept) (r .holding); queues = m .queues }
@@ -57,7 +52,7 @@ module _ {plan a : List ℕ} where
   pub moves-then : {b c : List ℕ} → Ready plan a → Moves plan a b → (Ready plan b → Moves plan b c) → Moves plan a c
   moves-then r m next =
       let k = next (moved r m) in
-      record { kept = kept-then (m .kept) (k .kept); queues = k .queues; grows = λ n h. grows-then (m .grows n h) (k .grows n h) }
+      record { kept = kept-then (m .kept) (k .kept); queues = k .queues; grows = λ n h. longer-then (m .grows n h) (k .grows n h) }
 
 -- ---- changes beside the queues
 
@@ -90,7 +85,7 @@ module _ {a b : List ℕ} (s : Rests a b) where
       let queues = r .queues in
       let later = holding-kept kept-rests holding in
       let same = queue-same {P = Resting} (λ j l m. omega arith) (λ j l m. omega arith) s in
-      let grows : (n : ℕ) → n < 16 → Grows a b n = λ n h. grows-same (same n h) in
+      let grows : (n : ℕ) → n < 16 → Grows a b n = λ n h. longer-same (same n h) in
       record {
         kept = kept-rests;
         queues = record {

@@ -1,7 +1,7 @@
 -- A node's queue in an area that holds a plan: who waits in it, each once, and never more than there is room for.
 use mathlib.Core.Path.{_≡_}
 use mathlib.Core.Logic.{_≢_}
-use mathlib.Core.List.{List, _++_}
+use mathlib.Core.List.{List}
 use Prim.Native.Nat.{ℕ, _<_, _≤_}
 use lib.ListN.{length, getD}
 use Rattle.base.specs.Numbers.{byteAt}
@@ -9,6 +9,7 @@ use Rattle.area.specs.Layout.{waits}
 use Rattle.area.specs.Queue.{endsOf, queueOf, Sound}
 use Rattle.tables.specs.Reads.{waitersOn}
 use Rattle.sending.proofs.Waiters.{CanWait}
+use Rattle.sending.proofs.Longer.{Longer}
 
 -- the number of the i-th oldest of the frames and requests that wait on node n
 abbrev pub waiter : List ℕ → ℕ → ℕ → ℕ
@@ -37,6 +38,5 @@ pub record Queues (plan a : List ℕ) : Type 0 where
   pub stands : (n k : ℕ) → CanWait plan n k → byteAt a (waits k) ≢ 0 → Stands a n k
 
 -- what a change that only adds to a queue, at its end, makes of it
-pub record Grows (a b : List ℕ) (n : ℕ) : Type 0 where
-  pub new : List ℕ
-  pub then : queueOf b n ≡ queueOf a n ++ new
+abbrev pub Grows : List ℕ → List ℕ → ℕ → Type 0
+Grows a b n = Longer (queueOf a n) (queueOf b n)

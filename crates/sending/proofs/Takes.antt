@@ -19,11 +19,12 @@ use Rattle.area.proofs.Frame.{same-refl, same-setEnds, same-dequeued}
 use Rattle.area.proofs.Kept.{Kept, kept-dequeued}
 use Rattle.area.proofs.QueueLaws.{ends-dequeued-other, queue-dequeued-other, queue-dequeued, sound-dequeued}
 use Rattle.taking.specs.Taken.{oldestArea, takenArea}
+use Rattle.sending.proofs.Longer.{longer-same}
 use Rattle.sending.proofs.Waiters.{CanWait, wait-small, wait-node, one-node}
 use Rattle.sending.proofs.Queues.{waiter, Queue, Queues, Stands}
 use Rattle.sending.proofs.Holding.{Holding, holding-kept}
 use Rattle.sending.proofs.Lines.{Line, line-of, line-marked, line-left, queue-of, queue-stays}
-use Rattle.sending.proofs.Moves.{Ready, grows-same, grows-stands}
+use Rattle.sending.proofs.Moves.{Ready, grows-stands}
 
 module _ {plan a : List ℕ} (r : Ready plan a) (n : ℕ) (h : n < 16) (some : 0 < endsOf a n .waiting) where
   open Ready r using (holding, queues)
@@ -102,7 +103,7 @@ module _ {plan a : List ℕ} (r : Ready plan a) (n : ℕ) (h : n < 16) (some : 0
       go (yes e) =
           let here : Stands a n u = rw e at s in
           rw e (behind u (here .place) d (rw leaves at (here .within)) (rw leaves at (here .there)))
-      go (no e) = grows-stands (grows-same (queue-dequeued-other a n h m (wait-node (holding .fit) can) e)) s
+      go (no e) = grows-stands (longer-same (queue-dequeued-other a n h m (wait-node (holding .fit) can) e)) s
 
   queues-dequeued : Queues plan (dequeued a n)
   queues-dequeued = record { queue = queue; stands = stands }

@@ -22,7 +22,7 @@ use Rattle.area.proofs.Frame.{Same, same-refl, same-then, same-set, NoEnds, NoR
 use Rattle.area.proofs.Kept.{Kept, planned, kept-low, kept-refl}
 use Rattle.ticking.specs.Tick.{timed, txTick, txTicks, rxExpiry, expiryReport, rxTick, rxReport, rxTicks, reported}
 use Rattle.ticking.specs.Sixteen.{each, expiring, fell, markOf, marksOf, eachMarked, txStep, rxStep}
-use Rattle.ticking.specs.Sixteen.{reportedFrom, cleared, markedReport}
+use Rattle.ticking.specs.Sixteen.{reportedFrom, withZeros, markedReport}
 use Rattle.ticking.proofs.Positions.{Positions, positions-kept}
 use Rattle.ticking.proofs.TickFrame.{Missed, same-txTick, same-expiry, same-rxTick, kept-rxTick}
 use Rattle.ticking.proofs.Apart.{scheduled-apart, expiry-apart, report-apart, scheduled-stored}
@@ -268,8 +268,8 @@ module _ (m : List ℕ) (j : ℕ) where
 
 reports-parted :
     (k : ℕ) (m : List ℕ) (j n : ℕ) (a report : List ℕ) → j + n ≤ 256 → Positions a → Marks (rx-turns k) m j n a
-    → markedReport m j n (each (fell k) (inTable j) n a) (cleared j n report) ≡ reportedFrom k j n a report
-unfolding each markedReport cleared reportedFrom
+    → markedReport m j n (each (fell k) (inTable j) n a) (withZeros j n report) ≡ reportedFrom k j n a report
+unfolding each markedReport withZeros reportedFrom
 reports-parted k m j zero a report h p e = refl
 reports-parted k m j (suc n) a report h p e =
     let w = rx-turns k in
@@ -283,8 +283,8 @@ reports-parted k m j (suc n) a report h p e =
     let number : inTable j + n ≡ inTable u = omega arith in
     rw (
       number,
-      reports-fell m j k n u low (set (cleared j n report) u 0) (omega arith) (omega arith) q,
-      reports-set m j n low (cleared j n report) u 0 (omega arith),
+      reports-fell m j k n u low (set (withZeros j n report) u 0) (omega arith) (omega arith) q,
+      reports-set m j n low (withZeros j n report) u 0 (omega arith),
       report-last,
       marked-fell w m j n u low (omega arith) (omega arith) q,
       area-last,
@@ -303,7 +303,7 @@ module _ (k j : ℕ) (a b m : List ℕ) (n : ℕ) (e : n ≡ 16) (h : j + 16 ≤
   pub rx-sixteen : eachMarked rxStep m j 16 b ≡ each (rxTick k) j 16 a
   rx-sixteen = let low : b ≡ each (fell k) (256 + j) 16 a = rw e at y in rw low (turns-parted (rx-turns k) m j 16 a h p rx-marks)
 
-  pub sixteen-reported : (report : List ℕ) → markedReport m j 16 b (cleared j 16 report) ≡ reportedFrom k j 16 a report
+  pub sixteen-reported : (report : List ℕ) → markedReport m j 16 b (withZeros j 16 report) ≡ reportedFrom k j 16 a report
   sixteen-reported report =
       let low : b ≡ each (fell k) (256 + j) 16 a = rw e at y in rw low (reports-parted k m j 16 a report h p rx-marks)
 

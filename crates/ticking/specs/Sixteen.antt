@@ -67,9 +67,9 @@ reportedFrom k j zero a report = report
 reportedFrom k j (suc n) a report = set (reportedFrom k j n a report) (j + n) (rxReport k (each (rxTick k) j n a) (j + n))
 
 -- zeros go in first
-unfoldable pub cleared : ℕ → ℕ → List ℕ → List ℕ
-cleared j zero report = report
-cleared j (suc n) report = set (cleared j n report) (j + n) 0
+unfoldable pub withZeros : ℕ → ℕ → List ℕ → List ℕ
+withZeros j zero report = report
+withZeros j (suc n) report = set (withZeros j n report) (j + n) 0
 
 -- and then what each expiry answers
 unfoldable pub markedReport : List ℕ → ℕ → ℕ → List ℕ → List ℕ → List ℕ

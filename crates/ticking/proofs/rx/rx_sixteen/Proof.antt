@@ -8,7 +8,7 @@ use native.Mathlib.Omega.{arith}
 use borrow.Author.Needs.{needs}
 use denote.Ref.{now}
 use lib.ListN.{length, length-set}
-use Rattle.ticking.specs.Sixteen.{rxStep, cleared}
+use Rattle.ticking.specs.Sixteen.{rxStep, withZeros}
 use Rattle.ticking.proofs.Positions.{bytes-positions}
 use Rattle.ticking.proofs.Sixteens.{none-at, none-marked}
 use Rattle.ticking.proofs.Turns.{rx-sixteen, sixteen-reported, none-reported}
@@ -16,17 +16,17 @@ use Rattle.ticking.proofs.rx.rx_sixteen.Statement.{statement}
 use Rattle.ticking.proofs.rx.rx_sixteen.Tie as tie
 
 abbrev Inv-loop : tie.InvT-loop
-Inv-loop area from k report₀ marks i₀ report i = (report ≡ cleared from i report₀) × (i ≤ 16) × (length report ≡ length report₀)
+Inv-loop area from k report₀ marks i₀ report i = (report ≡ withZeros from i report₀) × (i ≤ 16) × (length report ≡ length report₀)
 
 abbrev μ-loop : tie.MeasureT-loop
 μ-loop area from k report₀ marks i₀ report i = 16 - i
 
 loop-holds : tie.Need-loop-holds Inv-loop μ-loop
-unfolding cleared
+unfolding withZeros
 loop-holds c = (refl, omega arith, refl)
 
 loop-again : tie.Need-loop-again Inv-loop μ-loop
-unfolding cleared
+unfolding withZeros
 loop-again c = (rw add-one cc, omega arith, simp length-set (c .before .loop .inv .2))
 
 returns : tie.Need-returns Inv-loop μ-loop
@@ -41,7 +41,7 @@ returns c =
     let marks = c15 .lower-timers .result in
     let positions = bytes-positions (now (v .area)) (λ i. omega (arith, c18 .slice-known .given i)) in
     let h = c18 .before .pre .0 in
-    let put : c12 .loop .report ≡ cleared (v .from) 16 (now (v .report)) =
+    let put : c12 .loop .report ≡ withZeros (v .from) 16 (now (v .report)) =
     rw (le-antisymm (c12 .loop .inv .1) (c11 .loop-test .left)) at (c12 .loop .inv .0) in (
       c4 .rx-expire .ensures .0 ∙ rx-sixteen (v .k) (v .from) _ _ _ _ (omega arith) h positions (low .0) (low .1),
       c4 .rx-expire .ensures .1
@@ -60,7 +60,7 @@ returns-2 c =
     let positions = bytes-positions (now (v .area)) (λ i. omega (arith, c10 .slice-known .given i)) in
     let h = c10 .before .pre .0 in
     let none = none-at 16 marks (sym (c .before .any .ensures) ∙ c .if1 .left) in
-    let put : c4 .loop .report ≡ cleared (v .from) 16 (now (v .report)) =
+    let put : c4 .loop .report ≡ withZeros (v .from) 16 (now (v .report)) =
     rw (le-antisymm (c4 .loop .inv .1) (c3 .loop-test .left)) at (c4 .loop .inv .0) in (
       sym (none-marked rxStep marks (v .from) 16 _ none)
           ∙ rx-sixteen (v .k) (v .from) _ _ _ _ (omega arith) h positions (low .0) (low .1),

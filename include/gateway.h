@@ -22,6 +22,9 @@ extern "C" {
 #define GATEWAY_AREA_SIZE 32768
 #define GATEWAY_REPORT_SIZE 256
 
+/* In an ID of CAN this bit says that it has 29 bits, as CAN_EFF_FLAG in the can_id of Linux's SocketCAN; without it the ID has 11 bits. */
+#define GATEWAY_EXTENDED 0x80000000u
+
 /* What a reception or a response that is not refused answers. */
 
 /* accepted: the frame's signals are copied, and its long counter starts again; in a reception its timer too */
@@ -46,7 +49,7 @@ extern "C" {
 
 /* the input is empty, or the record runs past its end */
 #define GATEWAY_REFUSED_SHORT 1
-/* the kind is not 1 to 6 */
+/* the kind is not 1 to 8 */
 #define GATEWAY_REFUSED_KIND 2
 /* the kind may not stand here, or a CAN node follows a LIN node */
 #define GATEWAY_REFUSED_PLACE 3
@@ -54,7 +57,7 @@ extern "C" {
 #define GATEWAY_REFUSED_COUNT 4
 /* a field is outside its range */
 #define GATEWAY_REFUSED_RANGE 5
-/* an Rx frame's (node, ID) is not above that of the one before */
+/* an Rx frame's (node, ID) is not above that of the one before; a 29-bit ID is above all 11-bit IDs */
 #define GATEWAY_REFUSED_ORDER 6
 /* a signal or destination passes its frame's data, or the Tx frame does not exist */
 #define GATEWAY_REFUSED_DATA 7
@@ -91,8 +94,11 @@ struct gateway_opened {
 struct gateway_opened gateway_open(const uint8_t *plan, size_t plan_length, uint8_t *area, size_t area_length);
 
 /*
- * A frame that a CAN node received. The number is GATEWAY_ACCEPTED, GATEWAY_NO_ROW or GATEWAY_TOO_SHORT. With GATEWAY_NO_ROW, `place` is how many of
- * that node's rows have a smaller ID: behind so many of them such a row belongs in the plan.
+ * A frame that a CAN node received. `id` is as in SocketCAN: the number, with GATEWAY_EXTENDED where it has 29 bits. ID 32 in one format is not ID 32
+ * in the other. A number past its format's range, 0 to 2,047 or 0 to 536,870,911, is one that no row has; so is every `id` with bit 29 or 30 set,
+ * which SocketCAN gives to error and remote frames.
+ * The number is GATEWAY_ACCEPTED, GATEWAY_NO_ROW or GATEWAY_TOO_SHORT. With GATEWAY_NO_ROW, `place` is how many of that node's rows come before the ID,
+ * those with 11-bit IDs before those with 29-bit IDs, each by number: behind so many of them such a row belongs in the plan.
  * Refusals 11, 12, 16, 13.
  */
 struct gateway_received {
@@ -123,7 +129,8 @@ uint16_t gateway_tick(uint8_t *area, size_t area_length, uint8_t *report, size_t
 /*
  * The oldest frame or request that waits on a node, which then waits no more. The kind is GATEWAY_FRAME, and then the answer has its Tx number; or
  * GATEWAY_REQUEST, on a LIN node, and then the Rx number of the frame that is asked for; and with both its size, its ID and how many still wait on
- * that node. On LIN `protected_id` is the protected identifier, which is never 0, and for a frame `checksum` that of the payload; on CAN both are 0.
+ * that node. On CAN `id` is as in SocketCAN, with GATEWAY_EXTENDED for one of 29 bits, and `protected_id` and `checksum` are 0. On LIN `id` is the plain
+ * one, `protected_id` is the protected identifier, which is never 0, and for a frame `checksum` is that of the payload.
  * What waits leaves in the order in which it joined: with n ahead of it, at the (n + 1)-th take on its node. The kind is GATEWAY_NOTHING where
  * nothing waits or the take is refused. Refusals 11, 12.
  */

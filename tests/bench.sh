@@ -82,6 +82,39 @@ protected 0xe2; 3 bytes and a checksum should come
 checksum 0xb0, protected 0xe2
 END
 
+# The IDs of examples/bridge.txt, with 3 and with 8 digits as candump shows them: of frames, receptions, places, takes and timeouts.
+tools/bench examples/bridge.txt | grep -v '^#' | grep -oE 'ID [0-9A-F]+' | sort | uniq -c | tr -s ' ' >"$there/ids"
+diff "$there/ids" - <<'END' || fail "examples/bridge.txt: not these IDs"
+ 1 ID 00000100
+ 1 ID 09F11200
+ 14 ID 09F80100
+ 1 ID 09F80200
+ 5 ID 100
+ 3 ID 120
+ 2 ID 15FD0823
+ 4 ID 310
+ 1 ID 7FF
+END
+tools/bench examples/bridge.txt | sed -n '/^# The converter falls silent/,$p' | grep -oE '(take [01]|Tx frame|from Rx|short timeout|long timeout|ID .*\)|accepted [0-9]).*' >"$there/shown"
+diff "$there/shown" - <<'END' || fail "examples/bridge.txt: not these words"
+short timeout: Rx frame 1 (node 0,
+ID 09F80100)
+long timeout: Rx frame 1 (node 0,
+ID 09F80100)
+take 0 784 8 c9a38329505d4c0b 0
+Tx frame 0 (ID 310), none waits after it
+from Rx frame 1: 0x14c1d1e4, 0x0b4c5d50, failure bit 1
+accepted 6 ticks ago; no bound: its failure bit is 1
+take 1 e368904227 8 ff00005c6cffffff 0
+Tx frame 1 (ID 15FD0823), none waits after it
+from Rx frame 2: 0x6c5c
+accepted 1 tick ago; no bound: no failure bit
+take 0 784 8 38388429d0184d0b 0
+Tx frame 0 (ID 310), none waits after it
+from Rx frame 1: 0x14c21c1c, 0x0b4d18d0, failure bit 0
+accepted 1 tick ago; bound: fewer than 3
+END
+
 # How many can be ahead of each frame and of each request. Node 0 has a Tx frame; node 1 an Rx frame that is asked for, one that never is, and two Tx frames.
 frame='0000000000000000'
 printf '01 00\n02 00\n02 01\n03 00 0100 01 01 01 01 00 %s\n03 01 0003 01 01 01 01 00 %s\n03 01 0004 01 01 01 01 00 %s\n' $frame $frame $frame >"$there/ahead.txt"

@@ -1,6 +1,6 @@
 """What tools/bench says of a refused plan names what is to be mended. Argument: a bench program.
 
-Each line of CAUSES is a plan, its refusal and the words. Then every byte of three good plans is changed and every end cut off: the program decides
+Each line of CAUSES is a plan, its refusal and the words. Then every byte of four good plans is changed and every end cut off: the program decides
 what is refused, and for each refusal words must be there.
 """
 import subprocess
@@ -20,6 +20,11 @@ GOOD = HEAD + NODE + TX
 ON_LIN = HEAD + NODE + LIN
 LIN_TX = '03 01 003b 01 01 03 03 02 0000000000000000 '   # the last ID of a LIN node, one byte
 LIN_RX = '04 01 003b 01 01 02 02 00 00 02 '
+LONG_TX = '07 00 09f80100 02 01 03 03 02 0000000000000000 '
+LONG_RX = '08 00 00000020 01 01 02 02 00 00 02 '
+KINDS = ('it is 01 (a head), 02 (a node), 03 (a Tx frame), 04 (an Rx frame), 05 (a signal), 06 (a destination), '
+         '07 (a Tx frame with a 29-bit ID) or 08 (an Rx frame with a 29-bit ID)')
+RISING = 'Rx frames stand in rising order of node, then of ID'
 
 
 def rx(number):
@@ -40,15 +45,25 @@ CAUSES = [
     (HEAD + '02', 1, 1, 'a node has 2 bytes: kind, type; here is 1'),
     (HEAD + NODE + TX[:-3], 1, 2,
      'a Tx frame has 17 bytes: kind, node, ID (2), size, prescaler, reload, initial timer, flags, initial payload (8); here are 16'),
-    (HEAD + '07', 2, 1, '07 is no kind: it is 01 (a head), 02 (a node), 03 (a Tx frame), 04 (an Rx frame), 05 (a signal) or 06 (a destination)'),
-    (HEAD + '11', 2, 1, '11 is no kind: it is 01 (a head), 02 (a node), 03 (a Tx frame), 04 (an Rx frame), 05 (a signal) or 06 (a destination); '
-                        "events stand after a line 'events'"),
+    (HEAD + NODE + LONG_TX[:-3], 1, 2,
+     'a Tx frame with a 29-bit ID has 19 bytes: kind, node, ID (4), size, prescaler, reload, initial timer, flags, initial payload (8); here are 18'),
+    (HEAD + NODE + LONG_RX[:-3], 1, 2, 'an Rx frame with a 29-bit ID has 13 bytes: kind, node, ID (4), size, prescaler, reload, initial timer, '
+                                       'failure enable, failure position, long count; here are 12'),
+    (HEAD + '09', 2, 1, f'09 is no kind: {KINDS}'),
+    (HEAD + '11', 2, 1, f"11 is no kind: {KINDS}; events stand after a line 'events'"),
+    (HEAD + '13', 2, 1, f"13 is no kind: {KINDS}; events stand after a line 'events'"),
     (NODE, 3, 0, 'here stands a node; a plan begins with a head'),
     (HEAD + HEAD, 3, 1, 'here stands a head; after a head comes a node, a Tx frame or an Rx frame'),
     (GOOD + NODE, 3, 3, 'here stands a node; after a Tx frame comes a Tx frame or an Rx frame'),
     (GOOD + RX + DESTINATION, 3, 4, 'here stands a destination; after an Rx frame comes an Rx frame or a signal'),
     (GOOD + RX + SIGNAL + TX, 3, 5, 'here stands a Tx frame; after a signal comes an Rx frame, a signal or a destination'),
+    (LONG_TX, 3, 0, 'here stands a Tx frame with a 29-bit ID; a plan begins with a head'),
+    (GOOD + LONG_RX + TX, 3, 4, 'here stands a Tx frame; after an Rx frame comes an Rx frame or a signal'),
+    (GOOD + LONG_RX + LONG_TX, 3, 4, 'here stands a Tx frame with a 29-bit ID; after an Rx frame comes an Rx frame or a signal'),
+    (HEAD + NODE + LONG_TX + SIGNAL, 3, 3, 'here stands a signal; after a Tx frame comes a Tx frame or an Rx frame'),
     (HEAD + 17 * NODE, 4, 17, 'this would make 17 nodes, and at most 16 are lawful'),
+    (HEAD + NODE + 256 * TX + LONG_TX, 4, 258, 'this would make 257 Tx frames, and at most 256 are lawful'),
+    (HEAD + NODE + ''.join(map(rx, range(256))) + LONG_RX, 4, 258, 'this would make 257 Rx frames, and at most 256 are lawful'),
     (HEAD + NODE + 257 * TX, 4, 258, 'this would make 257 Tx frames, and at most 256 are lawful'),
     (HEAD + NODE + ''.join(map(rx, range(257))), 4, 258, 'this would make 257 Rx frames, and at most 256 are lawful'),
     (GOOD + RX + 65 * SIGNAL, 4, 68, 'this would make 65 signals of Rx frame 0, and at most 64 are lawful'),
@@ -71,11 +86,18 @@ CAUSES = [
     (ON_LIN + LIN_RX.replace('003b 01', '003c 09'), 5, 3, 'ID is hex 003c (60), and its range is hex 0000 to 003b (0 to 59) on a LIN node; '
                                                           'size is hex 09, and its range is hex 01 to 08 on a LIN node'),
     (ON_LIN + '04 02' + LIN_RX[5:], 5, 3, 'node is hex 02, and there are nodes 0 to 1'),
-    (ON_LIN + LIN_RX + LIN_RX, 6, 4, 'node 1, ID 0x03b is the row of Rx frame 0, record 3; Rx frames stand in rising order of node, then of ID'),
+    (ON_LIN + LIN_RX + LIN_RX, 6, 4, f'node 1, ID 0x03b is the row of Rx frame 0, record 3; {RISING}'),
+    (ON_LIN + '07 01' + LONG_TX[5:], 5, 3, 'kind 07 has a 29-bit ID, and node 1 is a LIN node, where it is kind 03'),
+    (ON_LIN + '08 01' + LONG_RX[5:].replace('00000020 01', '20000000 00'), 5, 3, 'kind 08 has a 29-bit ID, and node 1 is a LIN node, where it is kind 04; '
+     'ID is hex 20000000 (536870912), and its range is hex 00000000 to 1fffffff; size is hex 00, and its range is hex 01 to 08 on a LIN node'),
     (HEAD + TX, 5, 1, 'node is hex 00, and there is no node'),
     (HEAD + NODE + '03 01' + TX[5:], 5, 2, 'node is hex 01, and there is node 0 alone'),
     (HEAD + NODE * 3 + '03 03' + TX[5:], 5, 4, 'node is hex 03, and there are nodes 0 to 2'),
-    (HEAD + NODE + TX.replace('0100', '0800'), 5, 2, 'ID is hex 0800 (2048), and its range is hex 0000 to 07ff'),
+    (HEAD + NODE + TX.replace('0100', '0800'), 5, 2, 'ID is hex 0800 (2048), and its range is hex 0000 to 07ff (kind 07 has 29-bit IDs)'),
+    (HEAD + NODE + RX.replace('0020', 'ffff'), 5, 2, 'ID is hex ffff (65535), and its range is hex 0000 to 07ff (kind 08 has 29-bit IDs)'),
+    (HEAD + NODE + LONG_TX.replace('09f80100', '20000000'), 5, 2, 'ID is hex 20000000 (536870912), and its range is hex 00000000 to 1fffffff'),
+    (HEAD + NODE + LONG_RX.replace('00000020 01', '80000020 09'), 5, 2, 'ID is hex 80000020 (2147483680), and its range is hex 00000000 to 1fffffff; '
+                                                                        'size is hex 09, and its range is hex 00 to 08'),
     (HEAD + NODE + TX.replace(' 02 01 ', ' 09 01 '), 5, 2, 'size is hex 09, and its range is hex 00 to 08'),
     (HEAD + NODE + TX.replace(' 02 01 ', ' 02 10 '), 5, 2, 'prescaler is hex 10 (16), and its range is hex 01, 02, 0a or 14 (1, 2, 10 or 20)'),
     (HEAD + NODE + TX.replace('03 02', '03 04'), 5, 2, 'flags is hex 04, and its range is hex 00 to 03'),
@@ -85,9 +107,12 @@ CAUSES = [
     (GOOD + RX + '05 40 00', 5, 4,
      'position is hex 40 (64), and its range is hex 00 to 3f (0 to 63); signal size is hex 00, and its range is hex 01 to 40 (1 to 64)'),
     (GOOD + RX + SIGNAL + '06 0000 40', 5, 5, 'position is hex 40 (64), and its range is hex 00 to 3f (0 to 63)'),
-    (GOOD + RX + RX, 6, 4, 'node 0, ID 0x020 is the row of Rx frame 0, record 3; Rx frames stand in rising order of node, then of ID'),
-    (GOOD + RX + RX.replace('0020', '001f'), 6, 4,
-     'node 0, ID 0x01f is not above node 0, ID 0x020 of Rx frame 0, record 3; Rx frames stand in rising order of node, then of ID'),
+    (GOOD + RX + RX, 6, 4, f'node 0, ID 020 is the row of Rx frame 0, record 3; {RISING}'),
+    (GOOD + RX + RX.replace('0020', '001f'), 6, 4, f'node 0, ID 01F is not above node 0, ID 020 of Rx frame 0, record 3; {RISING}'),
+    (GOOD + RX + LONG_RX + LONG_RX, 6, 5, f'node 0, ID 00000020 is the row of Rx frame 1, record 4; {RISING}'),
+    (GOOD + LONG_RX.replace('0020', '0021') + LONG_RX, 6, 4,
+     f'node 0, ID 00000020 is not above node 0, ID 00000021 of Rx frame 0, record 3; {RISING}'),
+    (GOOD + LONG_RX + RX, 6, 4, f'node 0, ID 020 is not above node 0, ID 00000020 of Rx frame 0, record 3; {RISING}'),
     (GOOD + RX + '05 05 04', 7, 4, 'bits 5 to 8 would pass the data of Rx frame 0, 1 byte: bits 0 to 7'),
     (GOOD + RX + SIGNAL + '06 0001 06', 7, 5, 'it names Tx frame 1, and there is Tx frame 0 alone'),
     (GOOD + RX + SIGNAL + '06 0000 0d', 7, 5, 'bits 13 to 16 would pass the data of Tx frame 0, 2 bytes: bits 0 to 15'),
@@ -103,6 +128,8 @@ CAUSES = [
      'the failure bit of Rx frame 0 (record 3) would have bit 15 of Tx frame 0, which this destination has already'),
     (GOOD + RX_FAILURE, 9, 3, 'its failure enable is 01, and after it comes the end of the plan; '
                               'a signal and a destination must follow at once, or failure enable be 00'),
+    (GOOD + LONG_RX.replace('00 00 02', '01 0f 02') + LONG_RX, 9, 3, 'its failure enable is 01, and after it comes an Rx frame with a 29-bit ID; '
+                                                                     'a signal and a destination must follow at once, or failure enable be 00'),
     (GOOD + RX_FAILURE + SIGNAL + SIGNAL, 9, 3, 'its failure enable is 01, and after it comes a signal and a signal; '
                                                 'a signal and a destination must follow at once, or failure enable be 00'),
     (GOOD + RX_FAILURE.replace('0f 02', '10 02') + SIGNAL + DESTINATION, 9, 5,
@@ -126,7 +153,7 @@ if {row[1] for row in CAUSES} != set(range(1, 10)):
     sys.exit('not every refusal of a plan is there')
 
 met = 0
-for example in ('examples/ship.txt', 'examples/listing.txt', 'examples/pumps.txt'):
+for example in ('examples/ship.txt', 'examples/listing.txt', 'examples/pumps.txt', 'examples/bridge.txt'):
     with open(example, encoding='utf-8') as text:
         good = bytes(read_text(text.read())[0].data)
     changed = [good[:place] + bytes([byte]) + good[place + 1:] for place in range(len(good)) for byte in (0, 1, 2, 5, 0x41, 0xff)]

@@ -7,7 +7,7 @@ export CARGO_TARGET_DIR=$PWD/target/cargo
 cargo build --offline --release --quiet --manifest-path second/compare/Cargo.toml || exit 1
 # Its own tests: it finds and prints a difference, a fix that is too old and a queue that breaks its order, and its table counts what the lines say.
 # Those of planted mistakes take minutes.
-cargo test --offline --release --quiet --manifest-path second/compare/Cargo.toml --test generator --test ages --test lin --test queues \
+cargo test --offline --release --quiet --manifest-path second/compare/Cargo.toml --test generator --test ages --test lin --test queues --test formats \
     --test command_line >/dev/null || exit 1
 if [ -n "${BENCH-}" ]; then
     words=$(xargs printf '%s\n' <<<"$BENCH") || exit 1

@@ -15,6 +15,7 @@ FILES = {
     'shortest': 'crates/plan/specs/Shortest.antt',
     'layout': 'crates/area/specs/Layout.antt',
     'tick': 'crates/ticking/specs/Tick.antt',
+    'ids': 'crates/records/specs/Ids.antt',
     'page': 'docs/REFUSALS.md',
 }
 
@@ -95,6 +96,7 @@ def numbers_said(texts):
         say('GATEWAY_' + upper(name), number)
     said['GATEWAY_AREA_SIZE'] = int(re.search(r'^shortestArea = (\d+)$', texts['shortest'], flags=re.M).group(1))
     said['GATEWAY_REPORT_SIZE'] = int(re.search(r'^rxCount a = atMost (\d+) \(lowAt a rxCountBytes\)$', texts['layout'], flags=re.M).group(1))
+    said['GATEWAY_EXTENDED'] = int(re.search(r'^formatBit = (\d+)$', texts['ids'], flags=re.M).group(1))
     for name, start in ('NOTHING', 'nothingTaken number'), ('FRAME', r'takenStruct \(taken\.Frame x\)'), ('REQUEST', r'takenStruct \(taken\.Request x\)'):
         said['GATEWAY_' + name] = int(re.search(rf'^{start} =\s+record \{{\s+number = \w+;\s+kind = (\d+);', texts['fields'], flags=re.M).group(1))
     timeouts = re.search(r'^expiredReport a r = pick \(.*\) (\d) (\d)$', texts['tick'], flags=re.M)
@@ -113,7 +115,7 @@ def differences(texts):
             if ours.get(name) != theirs.get(name):
                 seen.append(f'{name}: the source has {ours.get(name)}, the header {theirs.get(name)}')
     said = numbers_said(texts)
-    defined = {n: int(v) for n, v in re.findall(r'^#define (GATEWAY_\w+) (\d+)$', texts['header'], flags=re.M)}
+    defined = {n: int(v, 0) for n, v in re.findall(r'^#define (GATEWAY_\w+) (\d+|0x[0-9a-f]+(?=u))u?$', texts['header'], flags=re.M)}
     for name in sorted(said.keys() | defined.keys()):
         if said.get(name) != defined.get(name):
             seen.append(f'{name}: the definitions say {said.get(name)}, the header {defined.get(name)}')
@@ -155,6 +157,8 @@ PLANTED = [
     ('another number of a request', 'header', 'GATEWAY_REQUEST 2', 'GATEWAY_REQUEST 3'),
     ('another report byte', 'header', 'GATEWAY_LONG_TIMEOUT 2', 'GATEWAY_LONG_TIMEOUT 3'),
     ('another area size', 'header', 'GATEWAY_AREA_SIZE 32768', 'GATEWAY_AREA_SIZE 32767'),
+    ('another bit for the format', 'header', 'GATEWAY_EXTENDED 0x80000000u', 'GATEWAY_EXTENDED 0x40000000u'),
+    ('a bit that could be taken for a sign', 'header', 'GATEWAY_EXTENDED 0x80000000u', 'GATEWAY_EXTENDED 0x80000000'),
     ('other words', 'header', '/* no such Tx frame */', '/* no such Rx frame */'),
     ('other words of the last refusal', 'header', '/* a reception on a LIN node; a response', '/* a reception on a LIN node, or a response'),
     ('another width in the source', 'source', 'node: usize, id: u32)', 'node: usize, id: u64)'),
@@ -166,6 +170,7 @@ PLANTED = [
     ('a field missing in the source', 'structs', '    pub waiting: u16,\n', ''),
     ('a struct that is not laid out as C does', 'structs', '#[repr(C)]\npub struct GatewayPayload', 'pub struct GatewayPayload'),
     ('another area size in the definitions', 'shortest', 'shortestArea = 32768', 'shortestArea = 32767'),
+    ('another bit for the format in the definitions', 'ids', 'formatBit = 2147483648', 'formatBit = 1073741824'),
     ('another number of a kind in the definitions', 'fields', 'kind = 1;', 'kind = 2;'),
     ('another number of a request in the definitions', 'fields', 'kind = 2;', 'kind = 1;'),
     ('an answer of two numbers in the definitions', 'answers', 'respondedNumber responded.TooShort = 2', 'respondedNumber responded.TooShort = 1'),

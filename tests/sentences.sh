@@ -157,6 +157,73 @@ says 'a full ring of frames and requests' "$head $lin 03 00 0003 01 01 01 01 00 
     '11 12 00 11 12 00 11 12 00 11 12 00' \
     'plan ok 1 1 2/tick 0 0/take 0 3 1 00 2/tick 0 0/take request 0 1 1 2/tick 0 0/take request 1 2 1 2/tick 0 0/take 0 3 1 00 2'
 says 'on a node without frames and requests nothing waits' "$queues" "$(joins 0 1 2 3 4 5) 11 12 00" "plan ok 3 6 6$(accepted 6)/tick 0 0 0 0 0 0/take none"
+# Ticket 6. Node 0 has ID 32, hex 20, in both formats; the 11-bit one goes to the first byte of Tx frame 0, whose ID is 256, the 29-bit one to the first of
+# Tx frame 1, whose ID is 256 with 29 bits. Both are sent on reception.
+long_tx() { printf '07 00 %s 02 01 00 00 01 %s' "$1" "$none"; }
+long_rx() { printf '08 00 %s 01 01 00 00 00 00 00' "$1"; }
+short_rx() { printf '04 00 %s 01 01 00 00 00 00 00' "$1"; }
+wide() { printf ' 13 %02x %08x 01 2d00000000000000' "$1" "$2"; }
+to_first='05 00 08 06 0000 00'; to_second='05 00 08 06 0001 00'
+both="$head $node $tx $(long_tx 00000100) $(short_rx 0020) $to_first $(long_rx 00000020) $to_second"
+says 'kinds 7 and 8 have IDs from 0' "$head $node $(long_tx 00000000) $(long_rx 00000000)" '' 'plan ok 1 1 1'
+says 'to 536,870,911' "$head $node $(long_tx 1fffffff) $(long_rx 1fffffff)" '' 'plan ok 1 1 1'
+says 'a Tx frame with ID 536,870,912 is refusal 5' "$head $node $(long_tx 20000000)" '' 'plan refused 5 2'
+says 'an Rx frame with ID 536,870,912 is refusal 5' "$head $node $(long_rx 20000000)" '' 'plan refused 5 2'
+says 'an ID with the highest bit alone is refusal 5' "$head $node $(long_rx 80000020)" '' 'plan refused 5 2'
+says 'kinds 7 and 8 are otherwise as 3 and 4: period, failure bit, long count' \
+    "$head $node 07 00 00000100 02 01 03 03 02 $none 08 00 00000020 01 01 02 02 01 0f 02 05 02 04 06 0000 06" \
+    '12 00 13 00 00000020 01 2c00000000000000 12 00 11 11 11 12 00 11 13 00 00000020 01 2c00000000000000 12 00' \
+    'plan ok 1 1 1/take none/rx 0/take 0 e256 2 02c0 0/tick 0/tick 1/tick 0/take 0 e256 2 02c1 0/tick 2/rx 0/take none'
+says 'and the order of little bits' "01 01 $node 07 00 00000100 02 01 00 00 01 $none $(long_rx 00000020) 05 02 04 06 0000 06" \
+    "13 00 00000020 01 2c00000000000000 12 00" 'plan ok 1 1 1/rx 0/take 0 e256 2 c002 0'
+says 'a field of kind 7 past its range is refusal 5' "$head $node 07 00 00000100 09 01 00 00 01 $none" '' 'plan refused 5 2'
+says 'a field of kind 8 past its range is refusal 5' "$head $node 08 00 00000020 01 03 00 00 00 00 00" '' 'plan refused 5 2'
+says 'a signal of kind 8 past its data is refusal 7' "$head $node $(long_rx 00000020) 05 05 04" '' 'plan refused 7 3'
+says 'an indicator of kind 8 without a destination is refusal 9' "$head $node 08 00 00000020 01 01 00 00 01 00 00 $(long_rx 00000021)" '' 'plan refused 9 2'
+says 'a Tx frame of either kind after an Rx frame is refusal 3' "$head $node $(short_rx 0020) $(long_tx 00000000)" '' 'plan refused 3 3'
+says 'also after one with 29 bits' "$head $node $(long_rx 00000020) $tx" '' 'plan refused 3 3'
+says 'a cut record of kind 7 is refusal 1' "$head $node 07 00 00000100 02 01 00 00 01 00000000000000" '' 'plan refused 1 2'
+says 'a cut record of kind 8 is refusal 1' "$head $node 08 00 00000020 01 01 00 00 00 00" '' 'plan refused 1 2'
+says 'Tx frames of both kinds count together' "$head $node $(for ((k = 0; k < 128; k++)); do printf '%s %s ' "$tx" "$(long_tx 00000100)"; done) $tx" '' \
+    'plan refused 4 258'
+says 'Rx frames of both kinds count together' \
+    "$head $node $(for ((k = 0; k < 200; k++)); do short_rx "$(printf '%04x ' $k)"; printf ' '; done
+                   for ((k = 0; k < 57; k++)); do long_rx "$(printf '%08x ' $k)"; printf ' '; done)" '' 'plan refused 4 258'
+says 'ID 32 in one format is not ID 32 in the other' "$both" "$got 12 00 12 00 $(wide 0 32) 12 00 12 00" \
+    'plan ok 1 2 2/rx 0/take 0 256 2 2c00 0/take none/rx 0/take 1 e256 2 2d00 0/take none'
+says 'where the other format alone has a row, there is none' "$head $node $(short_rx 0020)" "$(wide 0 32)" 'plan ok 1 0 1/rx 1 1'
+says 'and the other way' "$head $node $(long_rx 00000020)" "$got" 'plan ok 1 0 1/rx 1 0'
+says 'an acceptance starts the row of its own format alone again' \
+    "$head $node 04 00 0020 01 01 01 01 00 00 02 08 00 00000020 01 01 01 01 00 00 02" "11 $(wide 0 32) 11 11" 'plan ok 1 0 2/tick 1 1/rx 0/tick 2 1/tick 1 2'
+says 'both take in the order in which they joined' "$both" "$(wide 0 32) $got 12 00 12 00" 'plan ok 1 2 2/rx 0/rx 0/take 1 e256 2 2d00 1/take 0 256 2 2c00 0'
+says 'e stands before the greatest ID too, and before 0' "$head $node $(long_tx 1fffffff) $(long_tx 00000000) $(long_rx 1fffffff) $to_first $to_second" \
+    "$(wide 0 0x1fffffff) 12 00 12 00" 'plan ok 1 2 1/rx 0/take 0 e536870911 2 2d00 1/take 1 e0 2 2d00 0'
+says '11-bit rows come before 29-bit ones' "$head $node $(short_rx 07ff) $(long_rx 00000000)" '' 'plan ok 1 0 2'
+says 'an 11-bit row behind a 29-bit one is refusal 6' "$head $node $(long_rx 00000000) $(short_rx 07ff)" '' 'plan refused 6 3'
+says '29-bit rows ascend' "$head $node $(long_rx 0000ffff) $(long_rx 00010000) $(long_rx 09f80100)" '' 'plan ok 1 0 3'
+says 'a 29-bit row that does not ascend is refusal 6' "$head $node $(long_rx 00010000) $(long_rx 0000ffff)" '' 'plan refused 6 3'
+says 'a 29-bit row twice is refusal 6' "$head $node $(long_rx 00000020) $(long_rx 00000020)" '' 'plan refused 6 3'
+says '11-bit rows ascend, also before 29-bit ones' "$head $node $(short_rx 0021) $(short_rx 0020) $(long_rx 00000000)" '' 'plan refused 6 3'
+says 'the node counts before the format' "$head $node $node $(long_rx 1fffffff) 04 01 0000 01 01 00 00 00 00 00" '' 'plan ok 2 0 2'
+# rows 10, 30, 10 with 29 bits, 30 with 29 bits
+four="$head $node $node $(short_rx 0010) $(short_rx 0030) $(long_rx 00000010) $(long_rx 00000030)"
+says 'the place of an 11-bit ID counts the 11-bit rows before it' "$four" "$(stranger 0 0x0f)$(stranger 0 0x20)$(stranger 0 0x31)$(stranger 0 0x7ff)" \
+    'plan ok 2 0 4/rx 1 0/rx 1 1/rx 1 2/rx 1 2'
+says 'that of a 29-bit ID all 11-bit rows too' "$four" "$(wide 0 0)$(wide 0 0x0f)$(wide 0 0x20)$(wide 0 0x31)$(wide 0 0x1fffffff)" \
+    'plan ok 2 0 4/rx 1 2/rx 1 2/rx 1 3/rx 1 4/rx 1 4'
+says 'an 11-bit ID above 2047 has the place behind the 11-bit rows' "$four" "$(stranger 0 0x800)$(stranger 0 0xffff)" 'plan ok 2 0 4/rx 1 2/rx 1 2'
+says 'a 29-bit ID above 536,870,911 has the place behind all rows' "$four" "$(wide 0 0x20000010)$(wide 0 0x80000010)$(wide 0 0xffffffff)" \
+    'plan ok 2 0 4/rx 1 4/rx 1 4/rx 1 4'
+says 'on a node without rows the place is 0' "$four" "$(wide 1 0x10)" 'plan ok 2 0 4/rx 1 0'
+says 'event 19 is a reception: accepted, too short, and bytes past the size ignored' "$both" \
+    "13 00 00000020 00 $none 13 00 00000020 08 2dffffffffffffff 12 00" 'plan ok 1 2 2/rx 2/rx 0/take 1 e256 2 2d00 0'
+says 'event 19 gives 12, then 16, then 13' "$pump" "13 02 00000001 09 $none 13 01 00000001 09 $none 13 00 00000001 09 $none" \
+    'plan ok 2 1 1/rx refused 12/rx refused 16/rx refused 13'
+says 'a cut event 19 is bad' "$both" '13 00 00000020 01 2d000000000000' 'plan ok 1 2 2/input bad'
+says 'a Tx frame of kind 7 on a LIN node is refusal 5' "$head $lin $(long_tx 00000001)" '' 'plan refused 5 2'
+says 'an Rx frame of kind 8 on a LIN node is refusal 5' "$head $lin $(long_rx 00000001)" '' 'plan refused 5 2'
+says 'beside a LIN node a CAN node has them' "$head $node $lin $(long_tx 00000001) $(long_rx 00000001)" '' 'plan ok 2 1 1'
+says '2 begins past the new kinds' "$head $node 09" '' 'plan refused 2 2'
 # the last of 256 rows: its place is the highest that an acceptance writes
 rows=$(for id in {0..255}; do printf '04 00 %04x 01 01 01 01 00 00 02 ' "$id"; done)
 bytes() { printf " $1%.0s" {1..255}; }

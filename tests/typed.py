@@ -60,7 +60,9 @@ def lines(*answers):
 # Three nodes, of which the second has no rows.
 ROWS = '0100\n0200\n0200\n0200\n' + ''.join(f'04 {row} 00 01 00 00 00 00 00\n' for row in ('00 0120', '00 0130', '02 0110')) + 'events'
 NO_ROW = 'not taken: this node has no row for the ID'
+NO_DATA = 16 * '0'
 COMMENT = 'is not hex: a comment begins with #'
+ODD = 'has an odd number of hex digits: a byte has two, an ID three or four, or eight for one of 29 bits'
 EVENTS = 'is not hex: one line between plan and events says events, in small letters and nothing else'
 MISSING = "the text ends, and no line 'events' parts the plan from the events; write one, also where no event follows"
 EARLY = 'and the line ends; a byte is missing, or one too many stands before'
@@ -70,7 +72,8 @@ RX = ('an Rx frame has 11 bytes: kind, node, ID (2), size, prescaler, reload, in
       'long count')
 ACCEPTED, TICK, TAKE = '10 00 0020 01 5500000000000000', '11', '12 00'
 WATCHED = '02 02 02 01 0f'  # prescaler 2, reload 2, initial timer 2, failure bit 15
-EVENT_KINDS = 'it is 10 (a reception), 11 (a tick), 12 (a take), 14 (a response) or 15 (no response)'
+EVENT_KINDS = 'it is 10 (a reception), 11 (a tick), 12 (a take), 13 (a reception with a 29-bit ID), 14 (a response) or 15 (no response)'
+LONG_RECEPTION = 'a reception with a 29-bit ID has 15 bytes: kind, node, ID (4), length, data (8) whatever the length'
 RESPONSE = 'a response has 14 bytes: kind, node, ID (2), length, data (8) whatever the length, checksum'
 # A CAN node, and a LIN node with a Tx frame and an Rx frame, both of one byte; the Tx frame on CAN has the Rx frame's byte and failure bit.
 PUMP = '''0100
@@ -89,11 +92,22 @@ events
 ANSWERED, SILENT, POLL = '14 01 0001 01 2c00000000000000 12', '15 01 0001', '12 01'
 WRONG_CALL = 'a reception on a LIN node; a response or "no response" where the node is not LIN or has no such Rx frame'
 
+# A node with ID 20 hex in both formats, of which the 29-bit one goes to a Tx frame with the greatest ID.
+BRIDGE = '''0100
+0200
+07 00 1FFFFFFF 01 01 00 00 01 0000000000000000
+04 00 020 01 01 00 00 00 00 00
+08 00 00000020 01 01 02 02 00 00 00
+05 00 08
+06 0000 00
+events
+'''
+
 # Texts that cannot be read: what is told, on one line. Nothing is shown, and the end is 1.
 for text, words in [
     # hex, and what people write instead
-    ('01 00\n02 0\nevents\n', "line 2: '0' has an odd number of hex digits: a byte has two, an ID four"),
-    ('01 00\n020\nevents\n', "line 2: '020' has an odd number of hex digits: a byte has two, an ID four"),
+    ('01 00\n02 0\nevents\n', f"line 2: '0' {ODD}"),
+    ('01 00\n020\nevents\n', f"line 2: '020' {ODD}"),
     ('01 00\n\n# a node\n0x02 00\nevents\n', "line 4: '0x02' has 0x before it: all numbers are hex here, so write the digits alone"),
     ('01 00 // head\nevents\n', f"line 1: '//' {COMMENT}"),
     ('01 00 ; head\nevents\n', f"line 1: ';' {COMMENT}"),
@@ -121,13 +135,29 @@ for text, words in [
     ('0100\n0200 02\n00\nevents\n', f'line 2: a node has 2 bytes: kind, type; here is 1, {EARLY}'),
     ('0100\n04 00\n0020 01\nevents\n', f'line 2: {RX}; here are 2, {EARLY}'),
     ('0100\nevents\n14 01 0001 01 2c00000000000000\n12\n', f'line 3: {RESPONSE}; here are 13, {EARLY}'),
+    ('0100\nevents\n13 00 0020 01 2c00000000000000\n11\n', f'line 3: {LONG_RECEPTION}; here are 13, {EARLY}'),
+    ('0100\n0200\n04 00 020 01 01 02 02 00 00\n04 00 021 01 01 02 02 00 00 00\nevents\n', f'line 3: {RX}; here are 10, {EARLY}'),
+    # an ID with the digits of the other format
+    ('0100\n0200\n08 00 1F5 01 01 02 02 00 00 00\nevents\n',
+     "line 3: '1F5' has three hex digits, as an 11-bit ID; kind 08 has one of 29 bits, which has eight"),
+    ('0100\nevents\n13 00 1F5 00 0000000000000000\n',
+     "line 3: '1F5' has three hex digits, as an 11-bit ID; kind 13 has one of 29 bits, which has eight"),
+    ('0100\n0200\n04 00 09F80100 08 01 02 02 00 00 00\nevents\n',
+     "line 3: '09F80100' has eight hex digits, as a 29-bit ID; kind 04 has one of 11 bits, and kind 08 one of 29"),
+    ('0100\nevents\n10 00 15fd0823 00 0000000000000000\n',
+     "line 3: '15fd0823' has eight hex digits, as a 29-bit ID; kind 10 has one of 11 bits, and kind 13 one of 29"),
+    ('0100\nevents\n15 00 15fd0823\n', "line 3: '15fd0823' has eight hex digits, as a 29-bit ID; kind 15 has one of 11 bits"),
+    ('0100\nevents\n10 00 0x1F5 00 0000000000000000\n',
+     "line 3: '0x1F5' has 0x before it: all numbers are hex here, so write the digits alone"),
+    ('0100\nevents\n10 00 1F5F0 00 0000000000000000\n', f"line 3: '1F5F0' {ODD}"),
+    ('0100\nevents\n10 00 0020 123\n', f"line 3: '123' {ODD}"),
     ('0100\nevents\n15 01 00\n01\n', f'line 3: no response has 4 bytes: kind, node, ID (2); here are 3, {EARLY}'),
 ]:
     if run(text) != (1, '', f'tools/bench: FILE: {words}\n'):
         sys.exit(f'{text[:60]!r}: {run(text)}, and not told {words!r}')
 
 # Texts that are run: the end, and words of the view.
-MANY = '0100\n0200\n' + ''.join(f'04 00 {frame:04x} 08 01 02 02 00 00 02\n' + 64 * '05 00 01\n' for frame in range(16)) + '07\nevents\n'
+MANY = '0100\n0200\n' + ''.join(f'04 00 {frame:04x} 08 01 02 02 00 00 02\n' + 64 * '05 00 01\n' for frame in range(16)) + '0f\nevents\n'
 for text, status, words in [
     ('0100\nevents\n', 0, '=> plan ok 0 0 0 good: 0 nodes, 0 Tx frames, 0 Rx frames'),
     ('# a plan\n01 00\n\n02 02\nevents\n11\n', 1,
@@ -135,17 +165,41 @@ for text, status, words in [
     ('0100\n0201\n0200\nevents\n', 1, 'refused 3 at record 2, line 3: the kind may not stand here, or a CAN node follows a LIN node'),
     ('0100\n\n02\nevents\n', 1, 'refused 1 at record 1, line 3: the input is empty, or the record runs past its end a node has 2 bytes: kind, type; here is 1'),
     ('events\n', 1, 'refused 1 at record 0: the input is empty, or the record runs past its end the plan is empty; the least is a head, 01 00'),
-    ('0100\nevents\n11\n\n13 00\n', 1, f'input bad the run ends here, line 5: 13 is no kind: {EVENT_KINDS}'),
+    ('0100\nevents\n11\n\n1f 00\n', 1, f'input bad the run ends here, line 5: 1f is no kind: {EVENT_KINDS}'),
+    ('0100\nevents\n13 00 00000020 01\n', 1, f'input bad the run ends here, line 3: {LONG_RECEPTION}; here are 7'),
     ('0100\nevents\n0200\n', 1, f"the run ends here, line 3: 02 is no kind: {EVENT_KINDS}; records stand before the line 'events'"),
     ('0100\nevents\n10 00 0020 01\n', 1, f'input bad the run ends here, line 3: {RECEPTION}; here are 5'),
     ('0100\n0200\n0200\nevents\n12 02\n', 0, 'take refused 12 no such node: there are nodes 0 to 1'),
     (f'0100\n0200\nevents\n{frame(0, 0x20)}\n', 0, f'rx 1 0 {NO_ROW} its place: the plan has no rows'),
-    (f'{ROWS}\n{frame(0, 0)}\n', 0, f'rx 1 0 {NO_ROW} its place: before Rx frame 0, ID 0x120'),
-    (f'{ROWS}\n{frame(0, 0x121)}\n', 0, f'rx 1 1 {NO_ROW} its place: between Rx frame 0, ID 0x120, and Rx frame 1, ID 0x130'),
-    (f'{ROWS}\n{frame(0, 0x131)}\n', 0, f'rx 1 2 {NO_ROW} its place: between Rx frame 1, ID 0x130, and Rx frame 2, of node 2'),
+    (f'{ROWS}\n{frame(0, 0)}\n', 0, f'rx 1 0 {NO_ROW} its place: before Rx frame 0, ID 120'),
+    (f'{ROWS}\n{frame(0, 0x121)}\n', 0, f'rx 1 1 {NO_ROW} its place: between Rx frame 0, ID 120, and Rx frame 1, ID 130'),
+    (f'{ROWS}\n{frame(0, 0x131)}\n', 0, f'rx 1 2 {NO_ROW} its place: between Rx frame 1, ID 130, and Rx frame 2, of node 2'),
     (f'{ROWS}\n{frame(1, 0x121)}\n', 0, f'rx 1 0 {NO_ROW} its place: between Rx frame 1, of node 0, and Rx frame 2, of node 2'),
-    (f'{ROWS}\n{frame(2, 0x7ff)}\n', 0, f'rx 1 1 {NO_ROW} its place: behind Rx frame 2, ID 0x110'),
-    (f'{ROWS}\n{frame(2, 0x800)}\n', 0, f'rx 1 1 {NO_ROW} no row can have it: the greatest ID is 0x7ff'),
+    (f'{ROWS}\n{frame(2, 0x7ff)}\n', 0, f'rx 1 1 {NO_ROW} its place: behind Rx frame 2, ID 110'),
+    (f'{ROWS}\n{frame(2, 0x800)}\n', 0, f'rx 1 1 {NO_ROW} no row can have it: the greatest ID of 11 bits is 7FF'),
+    # IDs of 3, 4 and 8 digits; both formats of a number; the place in both
+    (BRIDGE, 0, 'Tx frame 0: node 0, ID 1FFFFFFF, 1 byte, no period, sends on reception'),
+    (BRIDGE, 0, 'Rx frame 0: node 0, ID 020, 1 byte, no timeout'),
+    (BRIDGE, 0, 'Rx frame 1: node 0, ID 00000020, 1 byte, timeout every 2 ticks, first at tick 1'),
+    (BRIDGE + '10 00 020 01 4a00000000000000\n12 00\n', 0, 'node 0 receives ID 020 rx 0 accepted'),
+    (BRIDGE + '10 00 020 01 4a00000000000000\n12 00\n', 0, 'take none nothing waits on this node'),
+    (BRIDGE + '13 00 00000020 01 4a00000000000000\n12 00\n', 0, 'node 0 receives ID 00000020 rx 0 accepted'),
+    (BRIDGE + '13 00 0000 0020 01 4a00000000000000\n12 00\n', 0, 'take 0 e536870911 1 4a 0 Tx frame 0 (ID 1FFFFFFF), none waits after it '
+     'from Rx frame 1: 0x4a accepted 0 ticks ago; no bound: no failure bit'),
+    (BRIDGE + '11\n11\n', 0, 'tick 0 1 short timeout: Rx frame 1 (node 0, ID 00000020)'),
+    (BRIDGE + '13 00 00000020 00 0000000000000000\n', 0, "rx 2 not taken: shorter than the row's size"),
+    (BRIDGE + '13 00 0000001f 00 ' + NO_DATA, 0, f'rx 1 1 {NO_ROW} {NO_DATA} its place: between Rx frame 0, ID 020, and Rx frame 1, ID 00000020'),
+    (BRIDGE + '13 00 1FFFFFFF 00 ' + NO_DATA, 0, f'rx 1 2 {NO_ROW} {NO_DATA} its place: behind Rx frame 1, ID 00000020'),
+    (BRIDGE + '13 00 20000000 00 ' + NO_DATA, 0, f'rx 1 2 {NO_ROW} {NO_DATA} no row can have it: the greatest ID of 29 bits is 1FFFFFFF'),
+    (BRIDGE + '13 00 80000020 00 ' + NO_DATA, 0, f'rx 1 2 {NO_ROW} {NO_DATA} no row can have it: the greatest ID of 29 bits is 1FFFFFFF'),
+    (BRIDGE + '10 00 7FF 00 0000000000000000\n', 0, f'rx 1 1 {NO_ROW} its place: between Rx frame 0, ID 020, and Rx frame 1, ID 00000020'),
+    (BRIDGE + '10 00 ffff 00 0000000000000000\n', 0, f'node 0 receives ID FFFF rx 1 1 {NO_ROW} no row can have it: the greatest ID of 11 bits is 7FF'),
+    (BRIDGE + '13 01 00000020 00 0000000000000000\n', 0, 'rx refused 12 no such node: there is node 0 alone'),
+    (BRIDGE + '13 00 00000020 09 0000000000000000\n', 0, 'rx refused 13 a received payload is longer than 8 bytes'),
+    (lin('13 01 00000001 01 2c00000000000000'), 0, 'rx refused 16 a reception on a LIN node; a response or "no 2c00000000000000 response" where '
+                                                   'the node is not LIN or has no such Rx frame: node 1 is a LIN node'),
+    (lin('14 01 001 01 2c00000000000000 12'), 0, 'node 1 responds, ID 0x001 rx 0 accepted'),
+    ('0100\n0200\n04 00 00200101 02 02 00 00 02\nevents\n', 0, 'Rx frame 0: node 0, ID 020, 1 byte'),  # bytes may stand together
     (source(WATCHED, TICK, TAKE), 0, 'from Rx frame 0: 0x00, failure bit 0 no bound: not accepted since the opening'),
     (source(WATCHED, TICK, ACCEPTED, TAKE), 0, 'from Rx frame 0: 0x55, failure bit 0 accepted 0 ticks ago; bound: fewer than 4'),
     (source(WATCHED, TICK, ACCEPTED, TICK, TAKE), 0, 'failure bit 0 accepted 1 tick ago; bound: fewer than 4'),
@@ -182,9 +236,9 @@ for text, status, words in [
     (lin('15 01 00c1'), 0, f'{WRONG_CALL}: node 1 has no Rx frame with ID 0x0c1'),
     (lin('15 02 0001'), 0, 'silent refused 12 no such node: there are nodes 0 to 1'),
     ('0100\nevents\n' + 3 * (30000 * '11' + '\n'), 1, '=> input bad the input passes 65,536 bytes in line 5'),
-    (MANY, 1, ' 1041 05 00 01 signal: bit 0 1042 07 unknown kind 07: what follows cannot be read ^^ refused here => plan refused 2 1042 '),
+    (MANY, 1, ' 1041 05 00 01 signal: bit 0 1042 0f unknown kind 0f: what follows cannot be read ^^ refused here => plan refused 2 1042 '),
     ('# one\x1b[2J\r\n0100\r\nevents\r\n', 0, '# one\\x1b[2J no record'),
-    ('07' + 30000 * '00' + '\nevents\n', 1, '00 00... ^^^^'),
+    ('0f' + 30000 * '00' + '\nevents\n', 1, '00 00... ^^^^'),
 ]:
     ended, shown, told = run(text)
     if (ended, told) != (status, '') or words not in shown:
@@ -193,17 +247,17 @@ for text, status, words in [
 # Options and other programs: the end, all that is shown or its last words, and what is told.
 OLD = source(WATCHED, TICK, ACCEPTED, *4 * [TICK], TAKE)
 OLD_LINES = ['plan ok 1 2 1', 'tick 0', 'rx 0', *4 * ['tick 0']]
-GOOD, REFUSED = '0100\nevents\n12 00\n', '0101 07\nevents\n'
+GOOD, REFUSED = '0100\nevents\n12 00\n', '0101 0f\nevents\n'
 LINE = "sh -c 'echo plan ok 0 0 0; exit 7'"
 for expected, got in [
     ((0, 'plan refused 2 1', ''), run(REFUSED, '--raw')),
-    ((0, 'plan ok 0 0 0 input bad', ''), run('0100\nevents\n13\n', '--raw')),
-    ((1, '', "tools/bench: FILE: line 1: '1' has an odd number of hex digits: a byte has two, an ID four\n"), run('1', '--raw')),
+    ((0, 'plan ok 0 0 0 input bad', ''), run('0100\nevents\n1f\n', '--raw')),
+    ((1, '', f"tools/bench: FILE: line 1: '1' {ODD}\n"), run('1', '--raw')),
     ((7, 'plan ok 0 0 0', ''), run(GOOD, '--raw', program=LINE)),
     ((0, '00 02 01 00 12 00', ''), run(GOOD, '--hex', program='false')),
     ((0, 'input bad', ''), run('\0\5\1\0', '--binary', '--raw')),
     ((1, 'input bad the input is too short for the plan length or its stated plan', ''), run('\0\5\1\0', '--binary')),
-    ((1, 'refused 2 at record 1: the kind is not 1 to 6 07 is no kind:', ''), run('\0\3\1\0\7', '--binary')),
+    ((1, 'refused 2 at record 1: the kind is not 1 to 8 0f is no kind:', ''), run('\0\3\1\0\x0f', '--binary')),
     ((2, '', 'tools/bench: BENCH: No closing quotation\n'), run(GOOD, program="'")),
     ((2, '', 'tools/bench: BENCH: /no/such/program: No such file or directory\n'), run(GOOD, program='/no/such/program')),
     ((2, '', 'tools/bench: BENCH: ./README.md: Permission denied\n'), run(GOOD, program='./README.md')),
@@ -230,6 +284,10 @@ for expected, got in [
     *(((0, 'no line of the bench program', ''), run(lin(event), program=lines('plan ok 2 2 2', line))) for event, line in (
         (ANSWERED, 'rx 1 0'), (ACCEPTED, 'rx 3'), (SILENT, 'silent 0'), (SILENT, 'rx 0'), (POLL, 'take request 2 1 1 0'),
         (POLL, 'take request 1 2 1 0'), (POLL, 'take request 1 1 2 0'), (TAKE, 'take request 1 1 1 0'), ('15 01 0009', 'silent 1'))),
+    *(((0, 'no line of the bench program', ''), run(text, program=lines(plan, line))) for text, plan, line in (
+        (BRIDGE + '12 00\n', 'plan ok 1 1 2', 'take 0 e 1 4a 0'), (BRIDGE + '12 00\n', 'plan ok 1 1 2', 'take 0 e5368709110 1 4a 0'),
+        (BRIDGE + '12 00\n', 'plan ok 1 1 2', 'take 0 E536870911 1 4a 0'), (lin(POLL), 'plan ok 2 2 2', 'take 1 e2 1 4a 0'),
+        (BRIDGE + '13 00 00000020 01 4a00000000000000\n', 'plan ok 1 1 2', 'rx 3'))),
     *(((0, 'no line of the bench program', ''), run(OLD, program=lines(*OLD_LINES, line)))
       for line in ('take 0 256 1 55 1', 'take 0 256 2 550 1', 'take 0 256 0 - 1', f'take {5000 * "1"} 256 2 5500 1', 'take 0 256 2 5500')),
 ]:

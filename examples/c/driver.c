@@ -9,7 +9,7 @@
 #define NODES 3
 
 struct frame {
-    uint32_t id;
+    uint32_t id; /* as the can_id of SocketCAN: with GATEWAY_EXTENDED where it has 29 bits */
     uint8_t node;
     uint8_t length;
     uint8_t data[8];
@@ -175,9 +175,17 @@ static unsigned can_room(uint8_t node)
     return 3;
 }
 
+/* An ID as candump shows it: 3 digits, or 8 where it has 29 bits. */
+static void print_id(uint32_t id)
+{
+    printf(id & GATEWAY_EXTENDED ? "%08X" : "%03X", (unsigned)(id & ~GATEWAY_EXTENDED));
+}
+
 static void can_send(const struct frame *frame)
 {
-    printf("tick %u: node %u sends %03x ", now - 1, frame->node, (unsigned)frame->id);
+    printf("tick %u: node %u sends ", now - 1, frame->node);
+    print_id(frame->id);
+    printf(" ");
     for (unsigned i = 0; i < frame->length; i++)
         printf("%02x", frame->data[i]);
     printf("\n");
@@ -190,7 +198,9 @@ static void source_is_silent(unsigned rx, int is_long)
 
 static void stranger(const struct frame *frame, unsigned place)
 {
-    printf("tick %u: node %u has no row for %03x; it belongs behind %u of that node's rows\n", now - 1, frame->node, (unsigned)frame->id, place);
+    printf("tick %u: node %u has no row for ", now - 1, frame->node);
+    print_id(frame->id);
+    printf("; it belongs behind %u of that node's rows\n", place);
 }
 
 static void stop(const char *call, unsigned number)

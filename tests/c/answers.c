@@ -45,6 +45,31 @@ static const uint8_t lin_plan[] = {
     4, 1, 0x00, 0x3b, 8, 1, 2, 2, 0, 0, 0,
 };
 
+/*
+ * Two CAN nodes. On node 0 five Rx frames of one byte, in the order of rows: 11-bit IDs 20 and 7ff, 29-bit IDs 0, 20 and 1fffffff. Each goes to the Tx frame
+ * of its number on node 1, which is sent on reception: 11-bit IDs 7ff and 0, 29-bit IDs 7ff, 0 and 1fffffff.
+ */
+static const uint8_t formats_plan[] = {
+    1, 0,
+    2, 0,
+    2, 0,
+    3, 1, 0x07, 0xff, 1, 1, 0, 0, 1, 0, 0, 0, 0, 0, 0, 0, 0,
+    7, 1, 0x00, 0x00, 0x07, 0xff, 1, 1, 0, 0, 1, 0, 0, 0, 0, 0, 0, 0, 0,
+    7, 1, 0x1f, 0xff, 0xff, 0xff, 1, 1, 0, 0, 1, 0, 0, 0, 0, 0, 0, 0, 0,
+    3, 1, 0x00, 0x00, 1, 1, 0, 0, 1, 0, 0, 0, 0, 0, 0, 0, 0,
+    7, 1, 0x00, 0x00, 0x00, 0x00, 1, 1, 0, 0, 1, 0, 0, 0, 0, 0, 0, 0, 0,
+    4, 0, 0x00, 0x20, 1, 1, 0, 0, 0, 0, 0,
+    5, 0, 8, 6, 0, 0, 0,
+    4, 0, 0x07, 0xff, 1, 1, 0, 0, 0, 0, 0,
+    5, 0, 8, 6, 0, 1, 0,
+    8, 0, 0x00, 0x00, 0x00, 0x00, 1, 1, 0, 0, 0, 0, 0,
+    5, 0, 8, 6, 0, 2, 0,
+    8, 0, 0x00, 0x00, 0x00, 0x20, 1, 1, 0, 0, 0, 0, 0,
+    5, 0, 8, 6, 0, 3, 0,
+    8, 0, 0x1f, 0xff, 0xff, 0xff, 1, 1, 0, 0, 0, 0, 0,
+    5, 0, 8, 6, 0, 4, 0,
+};
+
 static uint8_t area[GATEWAY_AREA_SIZE + 1];
 static uint8_t report[GATEWAY_REPORT_SIZE];
 static const uint8_t payload[9];
@@ -263,6 +288,76 @@ static void turns(void)
     expect_nothing("an opening empties the queues", gateway_take(area, GATEWAY_AREA_SIZE, 2), 0);
 }
 
+/* A frame without a row changes nothing; its place counts the rows before it, those with 11-bit IDs first. */
+static void strangers(void)
+{
+    static const struct {
+        const char *what;
+        uint32_t id;
+        unsigned place;
+    } told[] = {
+        {"before all 11-bit rows", 0x1f, 0},
+        {"between the 11-bit rows", 0x21, 1},
+        {"between the 11-bit rows, at the end", 0x7fe, 1},
+        {"the first number past 11 bits", 0x800, 2},
+        {"a 29-bit row's number without its bit", 0x1fffffff, 2},
+        {"an error frame, bit 29", 0x20000020, 2},
+        {"a remote frame, bit 30", 0x40000020, 2},
+        {"bits 29 and 30, as large as can be", 0x7fffffff, 2},
+        {"between the 29-bit rows", GATEWAY_EXTENDED | 0x01, 3},
+        {"just below the row 20 of 29 bits", GATEWAY_EXTENDED | 0x1f, 3},
+        {"just above the row 20 of 29 bits", GATEWAY_EXTENDED | 0x21, 4},
+        {"an 11-bit row's number with 29 bits", GATEWAY_EXTENDED | 0x7ff, 4},
+        {"the low bits of a row", GATEWAY_EXTENDED | 0x10020, 4},
+        {"the last but one of 29 bits", GATEWAY_EXTENDED | 0x1ffffffe, 4},
+        {"the first number past 29 bits", GATEWAY_EXTENDED | 0x20000000, 5},
+        {"bit 29 beside the row 20", GATEWAY_EXTENDED | 0x20000020, 5},
+        {"a remote frame with 29 bits", GATEWAY_EXTENDED | 0x40000020, 5},
+        {"bits 29 and 30 beside the row 0", GATEWAY_EXTENDED | 0x60000000, 5},
+        {"all bits", 0xffffffff, 5},
+    };
+    static uint8_t before[GATEWAY_AREA_SIZE];
+    for (size_t i = 0; i < sizeof before; i++)
+        before[i] = area[i];
+    for (size_t i = 0; i < sizeof told / sizeof *told; i++)
+        expect_no_row(told[i].what, 0, told[i].id, told[i].place);
+    expect_no_row("a row's ID on another node", 1, 0x20, 0);
+    expect_no_row("a row's 29-bit ID on another node", 1, GATEWAY_EXTENDED | 0x20, 0);
+    for (size_t i = 0; i < sizeof before; i++)
+        expect("a byte of the area after strangers", area[i], before[i]);
+}
+
+/* Ticket 6: bit 31 says that an ID has 29 bits, in a reception and in a take. */
+static void formats(void)
+{
+    static const uint32_t received[5] = {0x20, 0x7ff, GATEWAY_EXTENDED, GATEWAY_EXTENDED | 0x20, GATEWAY_EXTENDED | 0x1fffffff};
+    static const uint32_t sent[5] = {0x7ff, GATEWAY_EXTENDED | 0x7ff, GATEWAY_EXTENDED | 0x1fffffff, 0, GATEWAY_EXTENDED};
+    struct gateway_opened opened = gateway_open(formats_plan, sizeof formats_plan, area, GATEWAY_AREA_SIZE);
+    expect("open with both formats", opened.number, 0);
+    expect("Tx frames of both formats", opened.tx, 5);
+    expect("Rx frames of both formats", opened.rx, 5);
+    strangers();
+    for (unsigned i = 0; i < 5; i++) {
+        uint8_t value = (uint8_t)(0x51 + i);
+        expect_received("accepted in its format", gateway_receive(area, GATEWAY_AREA_SIZE, 0, received[i], &value, 1), GATEWAY_ACCEPTED);
+        struct gateway_taken taken = gateway_take(area, GATEWAY_AREA_SIZE, 1);
+        expect_can_frame(taken, i, 1, sent[i], 0);
+        expect("its payload", area[gateway_payload(area, GATEWAY_AREA_SIZE, taken).at], value);
+        expect_nothing("no frame of the other format", gateway_take(area, GATEWAY_AREA_SIZE, 1), 0);
+    }
+    strangers();
+    for (unsigned i = 0; i < 5; i++) {
+        expect_received("too short in its format", gateway_receive(area, GATEWAY_AREA_SIZE, 0, received[i], payload, 0), GATEWAY_TOO_SHORT);
+        expect_received("too long in its format", gateway_receive(area, GATEWAY_AREA_SIZE, 0, received[i], payload, 9), GATEWAY_REFUSED_LONG_PAYLOAD);
+        expect_received("no such node for it", gateway_receive(area, GATEWAY_AREA_SIZE, 2, received[i], payload, 9), GATEWAY_REFUSED_NO_NODE);
+    }
+    /* both formats wait at once */
+    for (unsigned i = 0; i < 5; i++)
+        gateway_receive(area, GATEWAY_AREA_SIZE, 0, received[4 - i], payload, 1);
+    for (unsigned i = 0; i < 5; i++)
+        expect_can_frame(gateway_take(area, GATEWAY_AREA_SIZE, 1), 4 - i, 1, sent[4 - i], 4 - i);
+}
+
 static unsigned respond(size_t node, uint32_t id, const uint8_t *bytes, size_t length, uint8_t checksum)
 {
     return gateway_respond(area, GATEWAY_AREA_SIZE, node, id, bytes, length, checksum);
@@ -290,6 +385,9 @@ static void lin_unchanged(void)
         before[i] = area[i];
     expect_received("a reception on LIN", gateway_receive(area, GATEWAY_AREA_SIZE, 1, 0x01, value, 1), GATEWAY_REFUSED_WRONG_CALL);
     expect_received("16 before 13", gateway_receive(area, GATEWAY_AREA_SIZE, 1, 0x01, value, 9), GATEWAY_REFUSED_WRONG_CALL);
+    expect_received("a 29-bit ID on LIN", gateway_receive(area, GATEWAY_AREA_SIZE, 1, GATEWAY_EXTENDED | 0x01, value, 9), GATEWAY_REFUSED_WRONG_CALL);
+    expect("a response with a 29-bit ID", respond(1, GATEWAY_EXTENDED | 0x01, value, 1, 0x12), GATEWAY_REFUSED_WRONG_CALL);
+    expect("no response with a 29-bit ID", no_response(1, GATEWAY_EXTENDED | 0x01), GATEWAY_REFUSED_WRONG_CALL);
     expect("a response, one byte short", gateway_respond(area, GATEWAY_AREA_SIZE - 1, 1, 0x01, value, 1, 0x12), GATEWAY_REFUSED_NOT_OPEN);
     expect("a response, no such node", respond(2, 0x01, value, 9, 0x12), GATEWAY_REFUSED_NO_NODE);
     expect("a response on CAN", respond(0, 0x01, value, 9, 0x12), GATEWAY_REFUSED_WRONG_CALL);
@@ -411,6 +509,7 @@ int main(int count, char **arguments)
     expect("a long timeout, two in a row", report[0], GATEWAY_LONG_TIMEOUT);
     ages();
     turns();
+    formats();
     lin();
 
     printf(wrong == 0 ? "ok\n" : "wrong\n");

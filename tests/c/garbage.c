@@ -1,5 +1,5 @@
-/* Marked areas of random bytes through every call: each call comes back, changes neither the mark nor a byte behind the area, and a payload lies
-   in the area. */
+/* Marked areas of random bytes through every call: each call comes back, changes neither the mark nor a byte behind the area, a payload lies
+   in the area, and the ID of a frame is below 65,536 or has 29 bits and the bit that says so. */
 #include "gateway.h"
 
 #include <stdio.h>
@@ -12,6 +12,7 @@ static uint8_t area[BEHIND + GATEWAY_AREA_SIZE + BEHIND];
 static uint8_t report[GATEWAY_REPORT_SIZE];
 static unsigned answers[65536];
 static unsigned outside;
+static unsigned formats[2], no_format; /* IDs of frames: of 11 and of 29 bits, and others */
 static uint64_t state = SEED;
 
 /* splitmix64 */
@@ -31,9 +32,11 @@ static void call(uint8_t *own)
         payload[i] = (uint8_t)next();
     unsigned number;
     switch (next() % 6) {
-    case 0:
-        number = gateway_receive(own, GATEWAY_AREA_SIZE, next() % 17, (uint32_t)(next() % 3 ? next() % 65536 : next()), payload, next() % 10).number;
+    case 0: {
+        uint32_t id = (uint32_t)(next() % 3 ? next() % 65536 : next());
+        number = gateway_receive(own, GATEWAY_AREA_SIZE, next() % 17, next() % 2 ? id : GATEWAY_EXTENDED | id, payload, next() % 10).number;
         break;
+    }
     case 1:
         number = gateway_tick(own, GATEWAY_AREA_SIZE, report, next() % 8 ? sizeof report : next() % 256);
         break;
@@ -42,6 +45,11 @@ static void call(uint8_t *own)
         struct gateway_payload part = gateway_payload(own, GATEWAY_AREA_SIZE, taken);
         number = taken.number;
         outside += part.at + part.size > GATEWAY_AREA_SIZE;
+        if (taken.kind == GATEWAY_FRAME) {
+            unsigned extended = (taken.id & GATEWAY_EXTENDED) != 0;
+            formats[extended]++;
+            no_format += (taken.id & ~GATEWAY_EXTENDED) > (extended ? 0x1fffffff : 0xffff);
+        }
         break;
     }
     case 3:
@@ -78,6 +86,10 @@ int main(void)
     }
     if (outside) {
         printf("%u payloads lie outside the area\n", outside);
+        return 1;
+    }
+    if (no_format || !formats[0] || !formats[1]) {
+        printf("IDs of frames: %u of 11 bits, %u of 29, %u of neither\n", formats[0], formats[1], no_format);
         return 1;
     }
     /* each answer that such an area can give */

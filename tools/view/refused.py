@@ -1,10 +1,10 @@
 """Why a plan was refused: what a crew needs to mend it. The program has refused; this looks for the cause of its number at its record."""
 from collections import namedtuple
 
-from view.records import RECORDS, Plan, records, size_of
+from view.records import EXTENDED, RECORDS, Plan, id_of, records, size_of
 from view.words import bits, count, cut_short, key, numbered, one_of, unknown_kind
 
-# The kinds that may stand after a kind; None is the plan's start.
+# The kinds that may stand after a kind; None is the plan's start. Those of EXTENDED stand where their like may.
 FOLLOWERS = {None: (1,), 1: (2, 3, 4), 2: (2, 3, 4), 3: (3, 4), 4: (4, 5), 5: (4, 5, 6), 6: (4, 5, 6)}
 # What a field can be, and the same in words. Two fields depend on others: `node` and `initial payload`.
 RANGES = {
@@ -20,7 +20,8 @@ RANGES = {
     'position': (range(64), '00 to 3f (0 to 63)'),
     'signal size': (range(1, 65), '01 to 40 (1 to 64)'),
 }
-# Those that are others on a LIN node.
+# Those that are others where the ID has 29 bits, and those on a LIN node.
+EXTENDED_RANGES = {'ID': (range(1 << 29), '00000000 to 1fffffff')}
 LIN_RANGES = {'ID': (range(60), '0000 to 003b (0 to 59) on a LIN node'), 'size': (range(1, 9), '01 to 08 on a LIN node')}
 # The refused record: what the records before it say, its number, itself, and the records behind it.
 Refused = namedtuple('Refused', 'plan at record rest')
@@ -39,6 +40,11 @@ def cause(data, number, at):
     if record.fields is None and number > 2:
         return ''
     return CAUSES[number](Refused(plan, at, record, every[at + 1:]))
+
+
+def alike(record):
+    """The kind of a record; of a frame with a 29-bit ID, that of one with 11 bits."""
+    return EXTENDED.get(record.kind, record.kind)
 
 
 def cut(refused):
@@ -68,18 +74,22 @@ def too_many(refused):
         4: [(len(plan.rx), 256, 'Rx frames')],
         5: [(plan.signals, 1024, 'signals'), (plan.frame_signals, 64, f'signals of Rx frame {rx}')],
         6: [(plan.destinations, 2048, 'destinations'), (plan.signal_destinations, 15, 'destinations of this signal')],
-    }.get(record.kind, [])
+    }.get(alike(record), [])
     return '; '.join(f'this would make {there + 1:,} {what}, and at most {most:,} are lawful' for there, most, what in counts if there >= most)
 
 
 def out_of_range(refused):
     plan, record = refused.plan, refused.record
-    ranges = {**RANGES, **LIN_RANGES} if plan.lin(record.fields.get('node', plan.nodes)) else RANGES
+    lin = plan.lin(record.fields.get('node', plan.nodes))
+    ranges = {**RANGES, **(LIN_RANGES if lin else {}), **(EXTENDED_RANGES if record.kind in EXTENDED else {})}
     outside = []
+    if lin and record.kind in EXTENDED:
+        outside.append(f'kind {record.kind:02x} has a 29-bit ID, and node {record.fields["node"]} is a LIN node, where it is kind {alike(record):02x}')
+    longer = ''.join(f' (kind {extended:02x} has 29-bit IDs)' for extended, kind in EXTENDED.items() if kind == record.kind and not lin)
     for (name, value), part in zip(record.fields.items(), record.parts[1:]):
         what = f'{name} is hex {part.hex()}' + f' ({value})' * (value > 9)
         if name in ranges and value not in ranges[name][0]:
-            outside.append(f'{what}, and its range is hex {ranges[name][1]}')
+            outside.append(f'{what}, and its range is hex {ranges[name][1]}' + longer * (name == 'ID'))
         if name == 'node' and value >= plan.nodes:
             outside.append(f'{what}, and {numbered(plan.nodes, "node")}')
         if name == 'initial payload' and any(part[record.fields['size']:]):
@@ -89,11 +99,11 @@ def out_of_range(refused):
 
 def not_rising(refused):
     plan, record = refused.plan, refused.record
-    if not plan.rx or record.kind != 4:
+    if not plan.rx or alike(record) != 4:
         return ''
-    before, after = plan.rx[-1], plan.rx[-1]._replace(node=record.fields['node'], id=record.fields['ID'])
-    how = 'is the row of' if (before.node, before.id) == (after.node, after.id) else f'is not above {key(before)} of'
-    return f'{key(after)} {how} Rx frame {len(plan.rx) - 1}, record {before.record}; Rx frames stand in rising order of node, then of ID'
+    before, after = plan.rx[-1], plan.rx[-1]._replace(node=record.fields['node'], id=id_of(record))
+    how = 'is the row of' if (before.node, before.id) == (after.node, after.id) else f'is not above {key(plan, before)} of'
+    return f'{key(plan, after)} {how} Rx frame {len(plan.rx) - 1}, record {before.record}; Rx frames stand in rising order of node, then of ID'
 
 
 def past_the_data(refused):
@@ -142,7 +152,7 @@ def name(owner, at):
 def bad_indicator(refused):
     """At an Rx frame the follower is missing; at a destination the failure bit has no room."""
     plan, at, record, rest = refused
-    if record.kind == 4:
+    if alike(record) == 4:
         followers = [RECORDS[next_.kind].name if next_.kind in RECORDS else 'an unknown kind' for next_ in rest[:2]]
         followers += ['the end of the plan'] * (2 - len(followers))
         seen = followers[0] if followers[0] != RECORDS[5].name else f'a signal and {followers[1]}'

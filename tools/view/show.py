@@ -10,16 +10,17 @@ from view.words import NO_LINE, answer_words, bad_event, clean, count, count_tim
 
 # The widths of the columns: each row makes 120 with the gaps. That of the record numbers grows with them.
 PLAN = (3, 42, 71)
-SHORT_ANSWER = (30, 25, 15, 44)
-LONG_ANSWER = (30, 25, 61)
+SHORT_ANSWER = (30, 27, 13, 44)
+LONG_ANSWER = (30, 27, 59)
 BAD = 'input bad'
 MOST_INPUT = 65536
 CUT = 119  # of a record that takes the rest, the digits of 40 bytes are shown
 
 
 def row(widths, *cells):
-    """Prints a row, its cells wrapped to the widths."""
-    columns = [[part for line in cell.split('\n') for part in textwrap.wrap(line, width, subsequent_indent='    ') or ['']]
+    """Prints a row, its cells wrapped to the widths; an ID stays with the word before it."""
+    columns = [[part.replace('\xa0', ' ') for line in cell.split('\n')
+                for part in textwrap.wrap(re.sub(r'\bID (?=\S)', 'ID\xa0', line), width, subsequent_indent='    ') or ['']]
                for cell, width in zip(cells, widths)]
     for line in zip_longest(*columns, fillvalue=''):
         print('  '.join(f'{part:{width}}' for part, width in zip(line, widths)).rstrip())

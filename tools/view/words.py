@@ -4,7 +4,7 @@ import re
 from itertools import groupby
 
 from view.lin import checksum, protected
-from view.records import EVENTS, RECORDS
+from view.records import EVENTS, EXTENDED, RECORDS, Id, id_of, length
 
 TYPES = {0: 'CAN', 1: 'LIN, we are the master'}
 SENDS = {0: '', 1: ', sends on reception', 2: ', sends on change', 3: ', sends on reception and on change'}
@@ -13,6 +13,7 @@ ANSWERS = {
     16: {'rx 0': 'accepted', 'rx 2': "not taken: shorter than the row's size"},
     17: {},
     18: {'take none': 'nothing waits on this node'},
+    19: {'rx 0': 'accepted', 'rx 2': "not taken: shorter than the row's size"},
     20: {'rx 0': 'accepted', 'rx 2': "not taken: shorter than the row's size", 'rx 3': 'not taken: the checksum is wrong'},
     21: {},
 }
@@ -20,12 +21,13 @@ TICK = re.compile(r'tick( [0-2])*')
 LINES = {
     16: re.compile(r'rx refused 1[1-6]|rx 1 \d{1,3}'),
     17: re.compile(rf'tick refused 1[1-6]|{TICK.pattern}'),
-    18: re.compile(r'take refused 1[1-6]|take \d{1,3} \d{1,4} [0-8] (-|([0-9a-f]{2})+) \d{1,3}|take request \d{1,3} \d{1,2} [1-8] \d{1,3}'),
+    18: re.compile(r'take refused 1[1-6]|take \d{1,3} (\d{1,4}|e\d{1,9}) [0-8] (-|([0-9a-f]{2})+) \d{1,3}|take request \d{1,3} \d{1,2} [1-8] \d{1,3}'),
+    19: re.compile(r'rx refused 1[1-6]|rx 1 \d{1,3}'),
     20: re.compile(r'rx refused 1[1-6]'),
     21: re.compile(r'silent refused 1[1-6]|silent [12]'),
 }
 NO_LINE = 'no line of the bench program'
-MOST_ID = 2047
+MOST_ID = {False: 0x7ff, True: 0x1fffffff}  # by whether an ID has 29 bits
 
 
 def clean(text, limit=None):
@@ -48,8 +50,13 @@ def bits(position, size):
     return f'bit {position}' if size == 1 else f'bits {position} to {position + size - 1}'
 
 
-def key(frame):
-    return f'node {frame.node}, ID 0x{frame.id:03x}'
+def key(plan, frame):
+    return f'node {frame.node}, ID {id_words(plan, frame.node, frame.id)}'
+
+
+def id_words(plan, node, id_):
+    """An ID of a node: on CAN as candump shows it, on LIN the plain one."""
+    return f'0x{id_.number:03x}' if plan.lin(node) else str(id_)
 
 
 def numbered(total, what):
@@ -62,7 +69,7 @@ def cut_short(kind, kinds, there):
     name, fields = kinds[kind]
     always = {'data': ' whatever the length'}
     layout = ', '.join(['kind', *(field + f' ({size})' * (size > 1) + always.get(field, '') for field, size in fields.items())])
-    return f'{name} has {count(1 + sum(fields.values()), "byte")}: {layout}; here {"is" if there == 1 else "are"} {there}'
+    return f'{name} has {count(length(kind, kinds), "byte")}: {layout}; here {"is" if there == 1 else "are"} {there}'
 
 
 def unknown_kind(kind, kinds):
@@ -87,7 +94,7 @@ def reason(number):
 
 def on_lin(plan, frame):
     """', protected 0xc1' for a frame of a LIN node, and nothing for any other."""
-    return f', protected 0x{protected(frame.id):02x}' if plan.lin(frame.node) else ''
+    return f', protected 0x{protected(frame.id.number):02x}' if plan.lin(frame.node) else ''
 
 
 def ahead(good, node, what):
@@ -103,17 +110,18 @@ def record_words(plan, record, good=None):
     if record.fields is None:
         return 'a cut record' if record.kind in RECORDS else f'unknown kind {record.kind:02x}: what follows cannot be read'
     values = list(record.fields.values())
-    if record.kind == 1:
+    kind = EXTENDED.get(record.kind, record.kind)
+    if kind == 1:
         return f'head: {plan.order} order' if values[0] < 2 else f'head: order {values[0]}'
-    if record.kind == 2:
+    if kind == 2:
         return f'node {plan.nodes - 1}: ' + TYPES.get(values[0], f'type {values[0]}')
-    if record.kind == 3:
+    if kind == 3:
         frame = plan.tx[-1]
         period = expiries(frame) if frame.reload or frame.initial else 'no period'
         sends = SENDS.get(frame.flags, f', flags {frame.flags}')
-        return f'Tx frame {len(plan.tx) - 1}: {key(frame)}{on_lin(plan, frame)}, {count(frame.size, "byte")}, {period}{sends}' + \
+        return f'Tx frame {len(plan.tx) - 1}: {key(plan, frame)}{on_lin(plan, frame)}, {count(frame.size, "byte")}, {period}{sends}' + \
             ahead(good, frame.node, '')
-    if record.kind == 4:
+    if kind == 4:
         frame = plan.rx[-1]
         expires, stopped = ('asked for', 'never asked for') if plan.lin(frame.node) else ('timeout', 'no timeout')
         timeout = f'{expires} {expiries(frame)}' if frame.reload or frame.initial else stopped
@@ -121,8 +129,8 @@ def record_words(plan, record, good=None):
         failure = f', failure bit {frame.position}' if frame.enable else ''
         asked = plan.lin(frame.node) and (frame.reload or frame.initial)
         request = ahead(good, frame.node, 'its request: ') if asked else ''
-        return f'Rx frame {len(plan.rx) - 1}: {key(frame)}{on_lin(plan, frame)}, {count(frame.size, "byte")}, {timeout}{long_count}{failure}{request}'
-    if record.kind == 5:
+        return f'Rx frame {len(plan.rx) - 1}: {key(plan, frame)}{on_lin(plan, frame)}, {count(frame.size, "byte")}, {timeout}{long_count}{failure}{request}'
+    if kind == 5:
         return f'    signal: {bits(*values)}'
     return f'        to {bits(values[1], plan.size)} of Tx frame {values[0]}'
 
@@ -130,8 +138,8 @@ def record_words(plan, record, good=None):
 def event_words(event, tick, times):
     if event.fields is None:
         return 'a cut event' if event.kind in EVENTS else f'unknown kind {event.kind:02x}'
-    if event.kind == 16:
-        return f'node {event.fields["node"]} receives ID 0x{event.fields["ID"]:03x}'
+    if event.kind in (16, 19):
+        return f'node {event.fields["node"]} receives ID {id_of(event)}'
     if event.kind == 17:
         return f'tick {tick}' if times == 1 else f'ticks {tick} to {tick + times - 1}'
     if event.kind == 18:
@@ -147,7 +155,7 @@ def bad_event(event):
 
 def accepted(plan, event, line):
     """The number of the Rx frame that the line says was accepted, in a list; an empty one for any other line."""
-    return plan.rows(event) if line == 'rx 0' and event.kind in (16, 20) and event.fields else []
+    return plan.rows(event) if line == 'rx 0' and event.kind in (16, 19, 20) and event.fields else []
 
 
 def timed_out(plan, event, line):
@@ -178,7 +186,7 @@ def answer_words(plan, event, line, in_a_row, ages):
     _, *rest = line.split()
     if rest[:1] == ['refused']:
         return [reason(rest[1]) + why_refused(plan, event, rest[1])]
-    if event.kind == 16:
+    if event.kind in (16, 19):
         return no_row(plan, event, int(rest[1]))
     if event.kind == 18:
         return request_words(plan, event, *map(int, rest[1:])) if rest[0] == 'request' else frame_words(plan, event, ages, *rest)
@@ -189,10 +197,10 @@ def why_refused(plan, event, number):
     """What a refusal is about, where the plan tells."""
     if number == '12':
         return f': {numbered(plan.nodes, "node")}'
-    if number != '16' or event.kind not in (16, 20, 21):
+    if number != '16' or event.kind not in (16, 19, 20, 21):
         return ''
     node, id_ = event.fields['node'], event.fields['ID']
-    if event.kind == 16:
+    if event.kind in (16, 19):
         return f': node {node} is a LIN node'
     return f': node {node} has no Rx frame with ID 0x{id_:03x}' if plan.lin(node) else f': node {node} is a CAN node'
 
@@ -212,20 +220,20 @@ def after_it(waiting):
 
 def request_words(plan, event, rx, id_, size, waiting):
     """A request: what the driver sends, and what it listens for."""
-    if rx >= len(plan.rx) or (plan.rx[rx].node, plan.rx[rx].id, plan.rx[rx].size) != (event.fields['node'], id_, size):
+    if rx >= len(plan.rx) or (plan.rx[rx].node, plan.rx[rx].id, plan.rx[rx].size) != (event.fields['node'], (False, id_), size):
         return [NO_LINE]
     return [f'request for Rx frame {rx} (ID 0x{id_:03x}), {after_it(waiting)}',
             f'  protected 0x{protected(id_):02x}; {count(size, "byte")} and a checksum should come']
 
 
 def frame_words(plan, event, ages, tx, id_, _, payload, waiting):
-    """A taken frame with what its payload holds; on a LIN node with its protected identifier and checksum."""
+    """A taken frame with what its payload holds; on a LIN node with its protected identifier and checksum. e stands before a 29-bit ID."""
     payload, owners = bytes.fromhex(payload.strip('-')), [owner for owner in plan.owners if owner.tx == int(tx)]
-    if any(owner.position + owner.size > 8 * len(payload) for owner in owners):
+    node, id_ = event.fields['node'], Id(id_.startswith('e'), int(id_.lstrip('e')))
+    if any(owner.position + owner.size > 8 * len(payload) for owner in owners) or id_.extended and plan.lin(node):
         return [NO_LINE]
-    id_ = int(id_)
-    lin = [f'  protected 0x{protected(id_):02x}; checksum 0x{checksum(id_, payload):02x}'] if plan.lin(event.fields['node']) else []
-    return [f'Tx frame {tx} (ID 0x{id_:03x}), {after_it(int(waiting))}', *lin, *values_in(plan, owners, payload, ages)]
+    lin = [f'  protected 0x{protected(id_.number):02x}; checksum 0x{checksum(id_.number, payload):02x}'] if plan.lin(node) else []
+    return [f'Tx frame {tx} (ID {id_words(plan, node, id_)}), {after_it(int(waiting))}', *lin, *values_in(plan, owners, payload, ages)]
 
 
 def no_row(plan, event, place):
@@ -238,10 +246,12 @@ def no_row(plan, event, place):
 
     def named(number):
         frame = plan.rx[number]
-        return f'Rx frame {number}, ' + (f'ID 0x{frame.id:03x}' if frame.node == node else f'of node {frame.node}')
+        return f'Rx frame {number}, ' + (f'ID {frame.id}' if frame.node == node else f'of node {frame.node}')
 
-    if event.fields['ID'] > MOST_ID:
-        where = f'no row can have it: the greatest ID is 0x{MOST_ID:03x}'
+    id_ = id_of(event)
+    most = id_._replace(number=MOST_ID[id_.extended])
+    if id_ > most:
+        where = f'no row can have it: the greatest ID of {29 if id_.extended else 11} bits is {most}'
     elif not plan.rx:
         where = 'its place: the plan has no rows'
     elif at == 0:
@@ -257,7 +267,7 @@ def timeouts(plan, told, in_a_row):
     """The timeouts that a line tells."""
     for number, byte in told:
         if number < len(plan.rx):
-            yield f'{"long" if byte == "2" else "short"} timeout: Rx frame {number} ({key(plan.rx[number])})'
+            yield f'{"long" if byte == "2" else "short"} timeout: Rx frame {number} ({key(plan, plan.rx[number])})'
             if in_a_row[number] > 1:
                 yield f'    {in_a_row[number]} in a row'
 

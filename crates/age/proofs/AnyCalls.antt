@@ -8,6 +8,7 @@ use lib.ListN.{length}
 use borrow.Author.Tests.{leb-true}
 use Rattle.base.specs.Numbers.{Bytes}
 use Rattle.base.proofs.Picks.{cases}
+use Rattle.records.specs.declared.record.Id.{Id}
 use Rattle.records.specs.declared.record.RxFrame.{RxFrame}
 use Rattle.plan.specs.declared.verdict.Verdict.{Verdict}
 use Rattle.plan.specs.declared.verdict.Verdict.the-variants as verdict
@@ -90,7 +91,7 @@ module _ (x : RxFrame) (r : ℕ) where
           knows = knows plan refl is l (k .state) (k .held) (k .knows);
         }
 
-    received : (y : Option (List ℕ)) (n id : ℕ) (payload : List ℕ) → KnownIf y a log last
+    received : (y : Option (List ℕ)) (n : ℕ) (id : Id) (payload : List ℕ) → KnownIf y a log last
         → KnownIf y (areaAfter a (reception n id payload)) (log ++ told y (call (reception n id payload)) a)
         (acceptanceAfter x last (call (reception n id payload)) a)
     unfolding told acceptanceAfter answerIn

@@ -6,7 +6,11 @@ use Prim.Native.Nat.{ℕ, _<_}
 use native.Mathlib.Decide.{ℕ-discrete}
 use lib.ListN.{length}
 use borrow.Author.Tests.{eq-eqb}
-use Rattle.base.proofs.Picks.{picks, by-eqb}
+use Rattle.base.proofs.Picks.{picks, by-eqb, cases}
+use Rattle.records.specs.declared.record.Id.{Id}
+use Rattle.records.specs.Ids.{sameId}
+use Rattle.records.proofs.IdLaws.{same-is}
+use Rattle.model.proofs.Ids.{is-same}
 use Rattle.plan.specs.Rows.{rowsOf}
 use Rattle.facts.specs.Good.{GoodPlan}
 use Rattle.area.specs.Claims.{RxEvent, accepted}
@@ -24,7 +28,7 @@ use Rattle.age.proofs.Knows.{agesOf, Timed, Knows}
 
 -- it is for Rx frame q, which the node and the ID name, and leaves state z
 module _ {plan : List ℕ} (good : GoodPlan plan) (r : ℕ) (l : r < length (rowsOf plan)) (log : List RxEvent) (last : Option Acceptance)
-    (n i : ℕ) (payload : List ℕ) (q : ℕ) (names : Names (said plan) n i q) (z : State) where
+    (n : ℕ) (i : Id) (payload : List ℕ) (q : ℕ) (names : Names (said plan) n i q) (z : State) where
   abbrev told : List RxEvent
   told = log ++ accepted q payload ∷ []
 
@@ -41,7 +45,7 @@ module _ {plan : List ℕ} (good : GoodPlan plan) (r : ℕ) (l : r < length (row
       let node : rowAt plan r .frame .node ≡ n = rw e (names .node) in
       let id : rowAt plan r .frame .id ≡ i = rw e (names .id) in
       rw (
-        picks _ (some (record { payload = payload; ticks = 0 })) last (eq-eqb _ i id),
+        picks _ (some (record { payload = payload; ticks = 0 })) last (is-same _ i id),
         picks _ (some (record { payload = payload; ticks = 0 })) last (eq-eqb _ n node),
       )
       (record { payload = accepted-own r log q payload e; timed = λ c h x is. anew c h x (sym (ap agesOf is)) })
@@ -50,8 +54,8 @@ module _ {plan : List ℕ} (good : GoodPlan plan) (r : ℕ) (l : r < length (row
   unfolding byReception
   anothers d old =
       by-eqb Then (rowAt plan r .frame .node) n _ _
-      (λ e. by-eqb Then (rowAt plan r .frame .id) i _ _
-      (λ f. absurd (d (lawful plan good .one n i r q (record { exists = l; node = e; id = f }) names))) (λ f. same)) (λ e. same)
+      (λ e. cases Then (sameId (rowAt plan r .frame .id) i) _ _
+      (λ f. absurd (d (lawful plan good .one n i r q (record { exists = l; node = e; id = same-is _ i f }) names))) (λ f. same)) (λ e. same)
     where
       Then : Option Acceptance → Type 0
       Then y = Knows plan r z told y

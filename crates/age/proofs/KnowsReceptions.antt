@@ -6,6 +6,7 @@ use mathlib.Core.Option.{Option}
 use Prim.Native.Nat.{ℕ, _<_}
 use native.Mathlib.Omega.{arith}
 use lib.ListN.{length, getD}
+use Rattle.records.specs.declared.record.Id.{Id}
 use Rattle.plan.specs.Rows.{rowsOf}
 use Rattle.facts.specs.Good.{GoodPlan}
 use Rattle.area.specs.Claims.{RxEvent}
@@ -31,7 +32,7 @@ module _ {plan : List ℕ} (good : GoodPlan plan) (r : ℕ) (l : r < length (row
   abbrev g : Running
   g = running (said plan)
 
-  module _ (n i : ℕ) (payload : List ℕ) where
+  module _ (n : ℕ) (i : Id) (payload : List ℕ) where
     abbrev z : State
     z = g .next s (reception n i payload)
 

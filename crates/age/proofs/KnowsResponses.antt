@@ -5,6 +5,7 @@ use mathlib.Core.List.{List, [], _∷_, _++_, append-nil}
 use mathlib.Core.Option.{Option}
 use Prim.Native.Nat.{ℕ, _<_}
 use lib.ListN.{length, getD}
+use Rattle.records.specs.declared.record.Id.the-variants.{Standard}
 use Rattle.plan.specs.Rows.{rowsOf}
 use Rattle.facts.specs.Good.{GoodPlan}
 use Rattle.area.specs.Claims.{RxEvent, expired}
@@ -45,7 +46,7 @@ module _ {plan : List ℕ} (good : GoodPlan plan) (r : ℕ) (l : r < length (row
     z = g .next s (response n i payload sum)
 
     abbrev After : Responded → State → Type 0
-    After x z = Knows plan r z (log ++ toldResponse x (numberFor n i (rowsOf plan)) payload) (byResponse (rowAt plan r .frame) n i payload x last)
+    After x z = Knows plan r z (log ++ toldResponse x (numberFor n (Standard i) (rowsOf plan)) payload) (byResponse (rowAt plan r .frame) n i payload x last)
 
     not-accepted : (x : Responded) → (x ≡ Accepted → ⊥) → After x s
     unfolding toldResponse byResponse
@@ -58,7 +59,7 @@ module _ {plan : List ℕ} (good : GoodPlan plan) (r : ℕ) (l : r < length (row
     unfolding toldResponse byResponse
     accepts q x w =
         let aside : Aside (w .again) z = order-aside (said plan) payload (rowIn (said plan) q .claims) (w .again) z (w .puts) in
-        knows-accepted good r l log last n i payload q (x .names) z (λ e c. absurd (c (asked-lin q x e)))
+        knows-accepted good r l log last n (Standard i) payload q (x .names) z (λ e c. absurd (c (asked-lin q x e)))
         (λ d. knows-still (aside .number ∙ w .recounts .number) (ap (λ xs. getD xs r 0) (aside .rxTimers ∙ w .rxTimers)) k)
 
     pub knows-responded : (x : Responded) → g .answer s (response n i payload sum) ≡ responded x → After x z
@@ -75,11 +76,11 @@ module _ {plan : List ℕ} (good : GoodPlan plan) (r : ℕ) (l : r < length (row
   -- ---- no response
 
   abbrev Silent : Silence → State → Type 0
-  Silent x z = Knows plan r z (log ++ toldSilence x (numberFor n i (rowsOf plan))) last
+  Silent x z = Knows plan r z (log ++ toldSilence x (numberFor n (Standard i) (rowsOf plan))) last
 
   silences : (x : Silence) (q : ℕ) → Polls (said plan) n i q → Silences (said plan) q s (g .next s (noResponse n i)) → Silent x (g .next s (noResponse n i))
   silences x q polls w =
-      rw (number-named plan good n i q (record { exists = polls .names .exists; node = polls .names .node; id = polls .names .id })) (by-answer x)
+      rw (number-named plan good n (Standard i) q (record { exists = polls .names .exists; node = polls .names .node; id = polls .names .id })) (by-answer x)
     where
       same : Knows plan r (g .next s (noResponse n i)) log last
       same = knows-still (w .number) (ap (λ xs. getD xs r 0) (w .rxTimers)) k

@@ -6,22 +6,24 @@ use native.Mathlib.Omega.{arith}
 use native.Mathlib.Decide.{ℕ-discrete}
 use borrow.Author.Tests.{eq-eqb, ne-eqb}
 use Rattle.base.specs.Pick.{pick}
-use Rattle.base.specs.Numbers.{Bytes}
+use Rattle.base.specs.Numbers.{Bytes, atMost}
 use Rattle.base.proofs.Picks.{by-eqb, alike}
 use Rattle.bits.specs.Digit.{digit, setDigit}
 use Rattle.bits.specs.Payload.{digitOf, bitAt, setBit, copied, differs}
 use Rattle.bits.specs.Owners.{owned, clash}
 use Rattle.clock.specs.Counter.{Prescaler, one, two, ten, twenty}
 use Rattle.clock.specs.Timer.{lowered}
+use Rattle.records.specs.declared.record.Id.the-variants.{Standard}
 use Rattle.records.specs.declared.record.RxFrame.{RxFrame}
 use Rattle.records.specs.declared.record.NodeType.the-variants.{Can}
 use Rattle.records.specs.declared.record.Entry.{Entry}
-use Rattle.records.specs.Kinds.{formOf, lengthOf, eightAt, txAt, rxAt, fieldsAt, kindOf, stageOfKind, stageOf}
+use Rattle.records.specs.Ids.{behindId, keyOf, sameId}
+use Rattle.records.specs.Kinds.{formOf, lengthOf, eightAt, txAt, rxAt, txRecord, rxRecord, fieldsAt, txKind, rxKind, kindOf, stageOfKind, stageOf}
 use Rattle.records.specs.Records.{recordAt, sizeOf, recordsFrom, recordsAt, records}
 use Rattle.records.specs.Nodes.{typeOf, isLin, frame}
-use Rattle.plan.specs.Progress.{keyOf, counted, rowAfter, after, start}
-use Rattle.plan.specs.Tests.{followed, isKind, isWhole, mayStand, canFirst, hasRoom, isPrescaler, zeroPast, txInRange}
-use Rattle.plan.specs.Tests.{rxInRange, inRange, frameFits, fitsNode, rises, inData, isFree, indicatorInData, indicatorIsFree}
+use Rattle.plan.specs.Progress.{rowKey, counted, rowAfter, after, start}
+use Rattle.plan.specs.Tests.{followed, isKind, isWhole, mayStand, canFirst, hasRoom, isPrescaler, zeroPast, idInRange, txInRange}
+use Rattle.plan.specs.Tests.{rxInRange, inRange, isLinId, frameFits, fitsNode, rises, inData, isFree, indicatorInData, indicatorIsFree}
 use Rattle.plan.specs.Check.{need, placed, judged, sizesAfter, setsAfter, ended, verdictOf, checkOn, checkPlan}
 use Rattle.plan.specs.declared.verdict.Verdict.the-variants.{Good}
 use Rattle.plan.specs.Rows.{copy, withFailure, claimsFrom, awaited, rowOf, rowsFrom, rowsOf, txFrames, txOf, nodesIn, typesIn, orderIn}
@@ -63,9 +65,9 @@ unfoldable pub oneSource : ℕ → ℕ → ℕ → List ℕ
 oneSource e r p = sink ++ source e r p
 
 pub one-source-good : (r : ℕ) {e p : ℕ} → Enable e → Prescaler p → checkPlan (oneSource e r p) ≡ Good 1 1 1
-unfolding oneSource pick digit setDigit owned clash formOf lengthOf eightAt txAt rxAt fieldsAt recordAt kindOf stageOfKind stageOf sizeOf recordsFrom
-    recordsAt records keyOf counted rowAfter after start followed isKind isWhole mayStand canFirst hasRoom isPrescaler zeroPast txInRange rxInRange
-    inRange frameFits fitsNode rises inData isFree indicatorInData indicatorIsFree need placed judged sizesAfter setsAfter ended verdictOf checkOn checkPlan
+unfolding oneSource pick digit setDigit owned clash formOf lengthOf eightAt txAt rxAt behindId txRecord rxRecord fieldsAt recordAt txKind rxKind kindOf stageOfKind stageOf sizeOf recordsFrom
+    recordsAt records atMost keyOf rowKey counted rowAfter after start followed isKind isWhole mayStand canFirst hasRoom isPrescaler zeroPast idInRange txInRange rxInRange
+    inRange isLinId frameFits fitsNode rises inData isFree indicatorInData indicatorIsFree need placed judged sizesAfter setsAfter ended verdictOf checkOn checkPlan
 one-source-good r off one = refl
 one-source-good r off two = refl
 one-source-good r off ten = refl
@@ -96,7 +98,7 @@ one-source-bytes {e} {r} {p} f l g =
 -- ---- what it says
 
 abbrev pub frameOf : ℕ → ℕ → ℕ → RxFrame
-frameOf e r p = record { node = 0; id = 0x20; size = 1; prescaler = p; reload = r; initial = 0; enable = e; position = 15; long = 0 }
+frameOf e r p = record { node = 0; id = Standard 0x20; size = 1; prescaler = p; reload = r; initial = 0; enable = e; position = 15; long = 0 }
 
 abbrev pub planOf : ℕ → ℕ → ℕ → Plan
 planOf e r p =
@@ -107,7 +109,7 @@ planOf e r p =
       tx =
           record {
             node = 0;
-            id = 0x100;
+            id = Standard 0x100;
             size = 2;
             prescaler = 1;
             reload = 0;
@@ -127,7 +129,7 @@ planOf e r p =
 
 module _ (e r p : ℕ) where
   pub one-source-says : said (oneSource e r p) ≡ planOf e r p
-  unfolding oneSource pick formOf lengthOf eightAt txAt rxAt fieldsAt recordAt kindOf sizeOf recordsFrom recordsAt records claimsFrom rowOf rowsFrom
+  unfolding oneSource pick formOf lengthOf eightAt txAt rxAt behindId txRecord rxRecord fieldsAt recordAt txKind rxKind kindOf sizeOf recordsFrom recordsAt records claimsFrom rowOf rowsFrom
       rowsOf txFrames txOf nodesIn typesIn typeOf orderIn
   one-source-says = refl
 
@@ -151,10 +153,10 @@ given = 0x2C ∷ 0x00 ∷ []
 
 -- the frame that it is taken as
 abbrev pub takenFrame : TakenFrame
-takenFrame = record { tx = record { 0 = 0 }; id = 0x100; size = 2; waiting = 0; framing = framing.Can }
+takenFrame = record { tx = record { 0 = 0 }; id = Standard 0x100; size = 2; waiting = 0; framing = framing.Can }
 
 abbrev pub aFix : Call
-aFix = reception 0 0x20 brought
+aFix = reception 0 (Standard 0x20) brought
 
 abbrev pub aTick : Call
 aTick = tick (0 ∷ [])
@@ -171,7 +173,7 @@ abbrev pub fixed : ℕ → ℕ → State
 fixed = stateOf (0x2C ∷ 0 ∷ 0 ∷ 0 ∷ 0 ∷ 0 ∷ 0 ∷ 0 ∷ []) (frame 0 ∷ [])
 
 pub fix-next : (r p : ℕ) {e : ℕ} → Enable e → (n v : ℕ) → nextOf (planOf e r p) (blank n v) aFix ≡ fixed n r
-unfolding nextOf receivedState find foundState accepted restarted put putBy sentIf withFailure awaited scheduled isIn joined copied differs bitAt setBit
+unfolding nextOf receivedState find sameId foundState accepted restarted put putBy sentIf withFailure awaited scheduled isIn joined copied differs bitAt setBit
     digitOf digit setDigit pick isLin
 fix-next r p off n v = refl
 fix-next r p on n v = refl
@@ -182,7 +184,7 @@ module _ (e r p : ℕ) where
   begins = refl
 
   pub fix-answer : (n v : ℕ) → answerOf (planOf e r p) (blank n v) aFix ≡ received Accepted
-  unfolding answerOf receivedAnswer find foundAnswer pick isLin
+  unfolding answerOf receivedAnswer find sameId foundAnswer pick isLin
   fix-answer n v = refl
 
   pub take-answer : (n v : ℕ) → answerOf (planOf e r p) (fixed n v) (take 0) ≡ taken (Frame takenFrame) given

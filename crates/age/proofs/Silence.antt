@@ -9,6 +9,8 @@ use lib.ListN.{length, replicate}
 use borrow.Author.Tests.{le-leb}
 use Rattle.base.specs.Pick.{pick}
 use Rattle.base.proofs.Picks.{picks}
+use Rattle.records.specs.declared.record.Id.the-variants.{Standard}
+use Rattle.records.specs.Ids.{sameId}
 use Rattle.clock.specs.Counter.{Prescaler}
 use Rattle.records.specs.declared.record.RxFrame.{RxFrame}
 use Rattle.records.specs.declared.record.Entry.{Entry}
@@ -123,12 +125,12 @@ module _ {e r p : ℕ} (enable : Enable e) (byte : r < 256) (prescaler : Prescal
     held₃ : Held (oneSource e r p) a₃ (fixed 1 r)
     held₃ = rw (fix-next r p enable 1 (fell r p 0 0)) at (does held₂ aFix .1)
 
-    accepts : receivedAnswer a₂ 0 0x20 brought ≡ Accepted
+    accepts : receivedAnswer a₂ 0 (Standard 0x20) brought ≡ Accepted
     unfolding answerIn
     accepts = let x = does held₂ aFix .0 ∙ fix-answer e r p 1 (fell r p 0 0) in cc
 
     accepted-now : (last : Option Acceptance) → acceptanceAfter (frameOf e r p) last (call aFix) a₂ ≡ some (lastOf 0)
-    unfolding acceptanceAfter byReception pick
+    unfolding acceptanceAfter byReception sameId pick
     accepted-now last = rw accepts
 
     module _ (k : ℕ) (quiet : Quiet e r p k 1 r) where

@@ -5,6 +5,9 @@ use mathlib.Core.List.{List, [], _∷_}
 use mathlib.Core.Option.{Option, none, some}
 use lib.Dec.{eqb}
 use Rattle.base.specs.Pick.{pick}
+use Rattle.records.specs.declared.record.Id.{Id}
+use Rattle.records.specs.declared.record.Id.the-variants.{Standard}
+use Rattle.records.specs.Ids.{sameId}
 use Rattle.records.specs.declared.record.RxFrame.{RxFrame}
 use Rattle.answers.specs.declared.Opened.{Opened}
 use Rattle.answers.specs.declared.Opened.the-variants as opened
@@ -32,16 +35,16 @@ byOpening (opened.Open nodes tx rx) last = none
 byOpening (opened.Refused why number) last = last
 
 -- the source is the Rx frame with this node and ID
-unfoldable pub byReception : RxFrame → ℕ → ℕ → List ℕ → Received → Option Acceptance → Option Acceptance
+unfoldable pub byReception : RxFrame → ℕ → Id → List ℕ → Received → Option Acceptance → Option Acceptance
 byReception x n id payload Accepted last =
-    pick (eqb (x .node) n) (pick (eqb (x .id) id) (some (record { payload = payload; ticks = 0 })) last) last
+    pick (eqb (x .node) n) (pick (sameId (x .id) id) (some (record { payload = payload; ticks = 0 })) last) last
 byReception x n id payload (NoRow place) last = last
 byReception x n id payload TooShort last = last
 byReception x n id payload (Refused why) last = last
 
 -- on LIN a response is what is accepted (document 02, Ticket 2)
 unfoldable pub byResponse : RxFrame → ℕ → ℕ → List ℕ → Responded → Option Acceptance → Option Acceptance
-byResponse x n id payload ofResponse.Accepted last = byReception x n id payload Accepted last
+byResponse x n id payload ofResponse.Accepted last = byReception x n (Standard id) payload Accepted last
 byResponse x n id payload ofResponse.TooShort last = last
 byResponse x n id payload ofResponse.WrongSum last = last
 byResponse x n id payload (ofResponse.Refused why) last = last

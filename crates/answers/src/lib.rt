@@ -1,5 +1,6 @@
 // What the calls answer.
 use plan::verdict::Reason;
+use records::record::Id;
 use records::record::RxNumber;
 use records::record::TxNumber;
 ghost use mathlib.Core.Path.{_≡_};
@@ -74,7 +75,7 @@ pub enum Framing {
 
 pub struct TakenFrame {
     pub tx: TxNumber,
-    pub id: usize,
+    pub id: Id,
     pub size: usize,
     // how many still wait on that node
     pub waiting: usize,
@@ -84,7 +85,7 @@ pub struct TakenFrame {
 // A request for an Rx frame of a LIN node, which has no payload.
 pub struct TakenRequest {
     pub rx: RxNumber,
-    pub id: usize,
+    pub id: Id,
     pub size: usize,
     pub waiting: usize,
     pub protected: u8,

@@ -11,17 +11,17 @@ use lib.Dec.{eqb}
 use lib.ListN.{length}
 use Rattle.base.specs.Pick.{pick}
 use Rattle.base.specs.Numbers.{byteAt, twoAt}
-use Rattle.base.proofs.Picks.{both, by-eqb}
+use Rattle.base.proofs.Picks.{both}
 use Rattle.bits.specs.Payload.{setBit}
 use Rattle.records.specs.declared.record.Record.{Record}
 use Rattle.records.specs.declared.record.Record.the-variants.{Signal, Destination, Broken}
 use Rattle.records.specs.declared.record.Fault.the-variants.{Cut}
-use Rattle.records.specs.Kinds.{formOf, lengthOf, fieldsAt, kindOf, rxAt, rxBytes}
+use Rattle.records.specs.Kinds.{formOf, lengthOf, txRecord, rxRecord, fieldsAt, kindOf, rxFields}
 use Rattle.records.specs.Records.{recordAt, recordsAt, sizeOf}
-use Rattle.records.proofs.RecordLaws.{no-fields, record-cut, record-whole, records-end, records-step}
+use Rattle.records.proofs.RecordLaws.{by-kind-byte, no-fields, record-cut, record-whole, records-end, records-step}
 use Rattle.records.proofs.Variants.{by-row}
 use Rattle.plan.specs.Rows.{Source, copy, Claim, withFailure, claimsFrom, awaited}
-use Rattle.area.specs.Layout.{payloadsStart, planStart, spot, stored, failureTx, claimsAt}
+use Rattle.area.specs.Layout.{payloadsStart, masksEnd, spot, stored, rxThere, failureTx, claimsAt}
 use Rattle.area.specs.Claims.{RxEvent, accepted, expired, done, allDone, failureWritten}
 use Rattle.area.proofs.Frame.{Same, same-refl, same-pick, same-setBit}
 use Rattle.area.proofs.Kept.{Kept}
@@ -59,14 +59,11 @@ module _ (n p s : ℕ) (bytes : List ℕ) (k : ℕ) where
     Ends r = claimsFrom n none p s (r ∷ rs) ≡ []
 
     stop-fields : Ends (fieldsAt (byteAt bytes k) bytes k)
-    unfolding fieldsAt formOf pick claimsFrom
+    unfolding fieldsAt txRecord rxRecord formOf pick claimsFrom
     stop-fields =
-        let kind = byteAt bytes k in
-        let Q : ℕ → Type 0 = λ x. Ends (fieldsAt kind bytes k) in
-        by-eqb Q kind 1 0 0 (λ e. rw e) (λ n1.
-        by-eqb Q kind 2 0 0 (λ e. rw e) (λ n2.
-        by-eqb Q kind 3 0 0 (λ e. rw e) (λ n3.
-        by-eqb Q kind 4 0 0 (λ e. rw e) (λ n4. rw (← (no-fields kind n1 n2 n3 n4 n5 n6 bytes k))))))
+        by-kind-byte (λ kind. kind ≢ 5 → kind ≢ 6 → Ends (fieldsAt kind bytes k)) (λ d e. refl) (λ d e. refl) (λ d e. refl) (λ d e. refl)
+        (λ d e. absurd (d refl)) (λ d e. absurd (e refl)) (λ d e. refl) (λ d e. refl) (byteAt bytes k)
+        (λ none d e. rw (← (no-fields (byteAt bytes k) none bytes k))) n5 n6
 
     stop-record : Ends (recordAt bytes k)
     unfolding recordAt claimsFrom
@@ -145,30 +142,30 @@ module _ (o r : ℕ) (a : List ℕ) (at : ℕ) where
   pub accepted-claims :
       (b pl : List ℕ) → stored b ≡ stored a
       → allDone o (accepted r pl) (claimsAt a r at) b
-      ≡ allDone o (accepted r pl) (claimsFrom r none 0 0 (recordsAt (stored b) (at + rxBytes))) (failureWritten o 0 b at)
+      ≡ allDone o (accepted r pl) (claimsFrom r none 0 0 (recordsAt (stored b) (at + rxFields))) (failureWritten o 0 b at)
   unfolding claimsAt failureWritten awaited
   accepted-claims b pl same =
       rw same
-      (with-accepted o r (rxAt (stored a) at .position) (failureTx a at) (claimsFrom r none 0 0 (recordsAt (stored a) (at + rxBytes))) b pl
-      (eqb (rxAt (stored a) at .enable) 1))
+      (with-accepted o r (rxThere a at .position) (failureTx a at) (claimsFrom r none 0 0 (recordsAt (stored a) (at + rxFields))) b pl
+      (eqb (rxThere a at .enable) 1))
 
   pub expired-claims : allDone o (expired r) (claimsAt a r at) a ≡ failureWritten o 1 a at
   unfolding claimsAt failureWritten awaited
   expired-claims =
-      with-expired o r (rxAt (stored a) at .position) (failureTx a at) (claimsFrom r none 0 0 (recordsAt (stored a) (at + rxBytes))) a
-      (eqb (rxAt (stored a) at .enable) 1)
-      ∙ copies-stay o r r 0 0 (recordsAt (stored a) (at + rxBytes)) _
+      with-expired o r (rxThere a at .position) (failureTx a at) (claimsFrom r none 0 0 (recordsAt (stored a) (at + rxFields))) a
+      (eqb (rxThere a at .enable) 1)
+      ∙ copies-stay o r r 0 0 (recordsAt (stored a) (at + rxFields)) _
 
 -- ---- what they leave
 
 -- the failure bit is in a payload
 pub failure-off :
-    {P : ℕ → Type 0} → ((j : ℕ) → payloadsStart ≤ j → j < planStart → P j → ⊥) → (o v : ℕ) (a : List ℕ) (at : ℕ) → rxAt (stored a) at .position < 256
+    {P : ℕ → Type 0} → ((j : ℕ) → payloadsStart ≤ j → j < masksEnd → P j → ⊥) → (o v : ℕ) (a : List ℕ) (at : ℕ) → rxThere a at .position < 256
     → Same P a (failureWritten o v a at)
 unfolding failureWritten
 failure-off never o v a at h = same-pick _ _ _ (same-setBit o _ v (never _ (omega arith) (omega arith)) (same-refl a)) (same-refl a)
 
-pub kept-failure : (o v : ℕ) (a : List ℕ) (at : ℕ) → rxAt (stored a) at .position < 256 → Kept a (failureWritten o v a at)
+pub kept-failure : (o v : ℕ) (a : List ℕ) (at : ℕ) → rxThere a at .position < 256 → Kept a (failureWritten o v a at)
 kept-failure = failure-off (λ j l m p. p .high (omega arith) m)
 
 -- a claim's Tx frame is its number's low byte

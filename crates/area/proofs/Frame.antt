@@ -16,7 +16,7 @@ use Rattle.bits.specs.Payload.{bitAt, setBit, copied}
 use Rattle.bits.proofs.Fitting.{fitting-le}
 use Rattle.plan.specs.Rows.{Source, copy, failure, widthOf, Claim}
 use Rattle.area.specs.declared.queue.Ends.{Ends}
-use Rattle.area.specs.Layout.{txReloadsStart, fullStart, entriesStart, payloadsStart, planStart, requestsStart, entryCount, queue, waits, txTimer, spot}
+use Rattle.area.specs.Layout.{txReloadsStart, fullStart, entriesStart, payloadsStart, masksEnd, requestsStart, entryCount, queue, waits, txTimer, spot}
 use Rattle.area.specs.Queue.{endsOf, slot, behind, setEnds, queued, scheduled, requested, oldest, dequeued}
 use Rattle.area.specs.Claims.{RxEvent, accepted, expired, sentIf, doneBy, sentBy, done, allDone}
 
@@ -180,7 +180,7 @@ module _ {P : ℕ → Type 0} (ends : (n : ℕ) → n < 16 → NoEnds P n) (ring
 pub record Spared (P : ℕ → Type 0) : Type 0 where
   pub ends : (n : ℕ) → n < 16 → NoEnds P n
   pub low : (j : ℕ) → txReloadsStart ≤ j → j < fullStart → P j → ⊥
-  pub high : (j : ℕ) → entriesStart ≤ j → j < planStart → P j → ⊥
+  pub high : (j : ℕ) → entriesStart ≤ j → j < masksEnd → P j → ⊥
 
 -- a claim as a plan of bytes states it: its bits may run past its Tx frame's payload, and end before the plan
 pub record Narrow (c : Claim) : Type 0 where

@@ -3,15 +3,15 @@
 use mathlib.Core.Path.{_≡_, refl, ap, _∙_}
 use mathlib.Core.Bool.{Bool}
 use mathlib.Core.List.{List}
-use Prim.Native.Nat.{ℕ, _+_, _<_, _≤_}
+use Prim.Native.Nat.{ℕ, _+_, _-_, _<_, _≤_}
 use native.Mathlib.Omega.{arith}
 use lib.ListN.{set, take}
 use Rattle.base.specs.Numbers.{byteAt, lowAt}
 use Rattle.bits.specs.Payload.{setBit}
 use Rattle.plan.specs.Rows.{Claim}
 use Rattle.area.specs.Layout.{counterByte, orderByte, planLengthBytes, nodeCountByte, canCountByte, txCountBytes, rxCountBytes}
-use Rattle.area.specs.Layout.{queuesStart, txReloadsStart, fullStart, entriesStart, planStart, planRoom, queue, txPlace, rxPlace, spot}
-use Rattle.area.specs.Layout.{marked, counter, order, nodeCount, typeOn, txCount, rxCount, rxRecordPlace, planOf, stored, txFrame, rxFrame}
+use Rattle.area.specs.Layout.{queuesStart, txReloadsStart, fullStart, entriesStart, masksEnd, planStart, planRoom, requestsStart, waiterRange, queue, txPlace, rxPlace, home, spot}
+use Rattle.area.specs.Layout.{marked, counter, order, nodeCount, typeOn, txCount, rxCount, txFieldsPlace, rxFieldsPlace, homeNode, planOf, stored, idBefore, txFrame, rxFrame}
 use Rattle.area.specs.Layout.{claimsAt, claims}
 use Rattle.area.specs.Queue.{endsOf, queued, scheduled, requested, dequeued}
 use Rattle.area.specs.Claims.{RxEvent, sentIf, done, allDone}
@@ -24,7 +24,7 @@ use Rattle.area.proofs.Frame.{spared-done, spared-allDone}
 pub record Planned (j : ℕ) : Type 0 where
   pub ends : (n : ℕ) → n < 16 → queue n + 4 ≤ j → j < queue n + 8 → ⊥
   pub low : txReloadsStart ≤ j → j < fullStart → ⊥
-  pub high : entriesStart ≤ j → j < planStart → ⊥
+  pub high : entriesStart ≤ j → j < masksEnd → ⊥
   pub count : j ≡ counterByte → ⊥
 
 -- the header and the nodes
@@ -41,7 +41,8 @@ pub in-tables : (j : ℕ) → fullStart ≤ j → j < entriesStart → Planned j
 in-tables j h l =
     record { ends = λ n k x y. omega arith; low = λ x y. omega arith; high = λ x y. omega arith; count = λ e. omega arith }
 
-pub in-plan : (j : ℕ) → planStart ≤ j → Planned j
+-- the plan, and what is free before it
+pub in-plan : (j : ℕ) → masksEnd ≤ j → Planned j
 in-plan j h = record { ends = λ n k x y. omega arith; low = λ x y. omega arith; high = λ x y. omega arith; count = λ e. omega arith }
 
 -- ---- what keeps them
@@ -62,7 +63,7 @@ kept-then = same-then
 pub kept-low : {a b : List ℕ} (i v : ℕ) → txReloadsStart ≤ i → i < fullStart → Kept a b → Kept a (set b i v)
 kept-low i v l m = same-set i v (λ p. p .low l m)
 
-pub kept-high : {a b : List ℕ} (i v : ℕ) → entriesStart ≤ i → i < planStart → Kept a b → Kept a (set b i v)
+pub kept-high : {a b : List ℕ} (i v : ℕ) → entriesStart ≤ i → i < masksEnd → Kept a b → Kept a (set b i v)
 kept-high i v l m = same-set i v (λ p. p .high l m)
 
 pub kept-count : {a b : List ℕ} (v : ℕ) → Kept a b → Kept a (set b counterByte v)
@@ -159,28 +160,59 @@ module _ {a b : List ℕ} (k : Kept a b) where
 
   pub planOf-kept : planOf b ≡ planOf a
   unfolding planOf
-  planOf-kept = rw (two planLengthBytes (omega arith) (omega arith), same-tail planStart k in-plan)
+  planOf-kept = rw (two planLengthBytes (omega arith) (omega arith), same-tail planStart k (λ j h. in-plan j (omega arith)))
 
   pub stored-kept : stored b ≡ stored a
   unfolding stored
-  stored-kept = ap (take planRoom) (same-tail planStart k in-plan)
+  stored-kept = ap (take planRoom) (same-tail planStart k (λ j h. in-plan j (omega arith)))
+
+  -- a frame's home, and its ID
+  home-kept : (n : ℕ) → n < waiterRange → byteAt b (home n) ≡ byteAt a (home n)
+  home-kept n h = k .at (home n) (in-tables (home n) (omega arith) (omega arith))
+
+  pub homeNode-kept : (n : ℕ) → n < waiterRange → homeNode b n ≡ homeNode a n
+  homeNode-kept n h = rw (home-kept n h)
+
+  before : (j : ℕ) → planStart ≤ j + 4 → byteAt b j ≡ byteAt a j
+  before j h = k .at j (in-plan j (omega arith))
+
+  idBefore-kept : (n at : ℕ) → n < waiterRange → idBefore b n at ≡ idBefore a n at
+  unfolding idBefore
+  idBefore-kept n at h =
+      rw (
+        home-kept n h,
+        before (planStart + at - 2) (omega arith),
+        before (planStart + at - 2 + 1) (omega arith),
+        before (planStart + at - 4) (omega arith),
+        before (planStart + at - 4 + 1) (omega arith),
+        before (planStart + at - 4 + 2) (omega arith),
+        before (planStart + at - 4 + 2 + 1) (omega arith),
+      )
 
   pub txFrame-kept : (t : ℕ) → t < 256 → txFrame b t ≡ txFrame a t
   unfolding txFrame
-  txFrame-kept t h = rw (stored-kept, table (txPlace t) (omega arith) (omega arith))
+  txFrame-kept t h =
+      let place : txFieldsPlace b t ≡ txFieldsPlace a t = rw (table (txPlace t) (omega arith) (omega arith)) in
+      rw (place, stored-kept, homeNode-kept t (omega arith), idBefore-kept t (txFieldsPlace a t) (omega arith))
 
   pub claimsAt-kept : (r at : ℕ) → claimsAt b r at ≡ claimsAt a r at
   unfolding claimsAt
   claimsAt-kept r at = rw stored-kept
 
   module _ (r : ℕ) (h : r < 256) where
-    place : rxRecordPlace b r ≡ rxRecordPlace a r
+    place : rxFieldsPlace b r ≡ rxFieldsPlace a r
     place = rw (table (rxPlace r) (omega arith) (omega arith))
 
     pub rxFrame-kept : rxFrame b r ≡ rxFrame a r
     unfolding rxFrame
-    rxFrame-kept = rw (stored-kept, place)
+    rxFrame-kept =
+        rw (
+          place,
+          stored-kept,
+          homeNode-kept (requestsStart + r) (omega arith),
+          idBefore-kept (requestsStart + r) (rxFieldsPlace a r) (omega arith),
+        )
 
     pub claims-kept : claims b r ≡ claims a r
     unfolding claims
-    claims-kept = ap (claimsAt b r) place ∙ claimsAt-kept r (rxRecordPlace a r)
+    claims-kept = ap (claimsAt b r) place ∙ claimsAt-kept r (rxFieldsPlace a r)

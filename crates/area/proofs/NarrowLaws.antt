@@ -10,12 +10,12 @@ use Rattle.base.proofs.Picks.{both}
 use Rattle.bits.proofs.PayloadLaws.{Bytes}
 use Rattle.records.specs.declared.record.Record.{Record}
 use Rattle.records.specs.Views.{onSignal, onDestination}
-use Rattle.records.specs.Kinds.{rxAt}
+use Rattle.records.specs.Kinds.{rxAt, txRecord, rxRecord}
 use Rattle.records.specs.Records.{recordAt, recordsFrom, recordsAt}
 use Rattle.records.proofs.RecordLaws.{by-record}
 use Rattle.records.proofs.Variants.{by-row}
 use Rattle.plan.specs.Rows.{Claim, withFailure, claimsFrom, awaited}
-use Rattle.area.specs.Layout.{planStart, planRoom, rxRecordPlace, stored, claimsAt, claims}
+use Rattle.area.specs.Layout.{planStart, planRoom, rxFieldsPlace, stored, claimsAt, claims}
 use Rattle.area.proofs.Frame.{Each, Narrow}
 use Rattle.area.proofs.ClaimLaws.{narrow-copy, narrow-failure}
 
@@ -42,8 +42,8 @@ Within (some q) = q < 256
 
 module _ (plan : List ℕ) (b : Bytes plan) where
   small-at : (at : ℕ) → Small (recordAt plan at)
-  unfolding Small
-  small-at at = by-record Small plan at (λ fault. tt) tt tt tt tt (b (at + 2)) (b (at + 3))
+  unfolding Small txRecord rxRecord
+  small-at at = by-record Small plan at (λ fault. tt) tt tt (λ id stands. tt) (λ id stands. tt) (b (at + 2)) (b (at + 3))
 
   small-from : (bound at : ℕ) → Each Small (recordsFrom bound plan at)
   unfolding recordsFrom
@@ -74,4 +74,4 @@ narrow-copies a r at p s l b = narrow-from r none p s _ tt l (small-from (stored
 pub narrow-claims : (a : List ℕ) (r : ℕ) → Bytes a → Each Narrow (claims a r)
 unfolding claims claimsAt awaited rxAt
 narrow-claims a r b =
-    narrow-with r _ _ _ (both Within _ _ _ (bytes-stored a b (rxRecordPlace a r + 9)) tt) (narrow-copies a r _ 0 0 (omega arith) b)
+    narrow-with r _ _ _ (both Within _ _ _ (bytes-stored a b (rxFieldsPlace a r + 5)) tt) (narrow-copies a r _ 0 0 (omega arith) b)

@@ -15,7 +15,7 @@ use Rattle.base.proofs.Picks.{picks, passes, cases}
 use Rattle.base.proofs.Ranges.{low-same}
 use Rattle.area.specs.declared.queue.Ends.{Ends}
 use Rattle.area.specs.Layout.{queuesStart, txReloadsStart, entriesStart, payloadsStart, requestsStart, waiterRange, entryCount, LongEnough}
-use Rattle.area.specs.Layout.{queue, entry, waits, txTimer, txFrame, rxFrame}
+use Rattle.area.specs.Layout.{queue, entry, waits, txTimer, homeNode}
 use Rattle.area.specs.Queue.{endsOf, past, slot, behind, entryAt, added, removed, setEnds, queued, scheduled, requested, oldest, dequeued}
 use Rattle.area.specs.Queue.{entries, queueOf, Sound, Apart}
 use Rattle.area.proofs.Frame.{slot-low, slot-high, Same, same-refl, same-two, same-set, same-setLow, same-setEnds, same-queued, same-dequeued}
@@ -312,7 +312,7 @@ scheduled-waiting a t d = passes _ _ _ (ne-eqb _ _ d)
 
 -- a frame that does not joins its node's queue: as far as the queues go, that is all
 pub queue-scheduled :
-    (a : List ℕ) (t m : ℕ) → t < 256 → m < 16 → byteAt a (waits t) ≡ 0 → queueOf (scheduled a t) m ≡ queueOf (queued a (txFrame a t .node % 16) t) m
+    (a : List ℕ) (t m : ℕ) → t < 256 → m < 16 → byteAt a (waits t) ≡ 0 → queueOf (scheduled a t) m ≡ queueOf (queued a (homeNode a t) t) m
 unfolding scheduled
 queue-scheduled a t m ht hm z =
     rw (picks _ _ _ (eq-eqb _ _ z))
@@ -330,7 +330,7 @@ requested-waiting a r d = passes _ _ _ (ne-eqb _ _ d)
 -- one that does not joins its node's queue
 pub queue-requested :
     (a : List ℕ) (r m : ℕ) → r < 256 → m < 16 → byteAt a (waits (requestsStart + r)) ≡ 0
-    → queueOf (requested a r) m ≡ queueOf (queued a (rxFrame a r .node % 16) (requestsStart + r)) m
+    → queueOf (requested a r) m ≡ queueOf (queued a (homeNode a (requestsStart + r)) (requestsStart + r)) m
 unfolding requested
 queue-requested a r m hr hm z =
     rw (picks _ _ _ (eq-eqb _ _ z))

@@ -6,9 +6,8 @@ use lib.Dec.{eqb}
 use Rattle.base.specs.Pick.{pick}
 use Rattle.bits.specs.Payload.{setBit, copied, differs}
 use Rattle.bits.specs.Word.{fitting}
-use Rattle.records.specs.Kinds.{rxAt}
 use Rattle.plan.specs.Rows.{Source, copy, failure, Claim}
-use Rattle.area.specs.Layout.{spot, stored, txFrame, failureTx}
+use Rattle.area.specs.Layout.{spot, txFrame, rxThere, failureTx}
 use Rattle.area.specs.Queue.{scheduled}
 
 -- what happens to an Rx frame: a payload is accepted, or its timer expires
@@ -46,7 +45,7 @@ unfoldable pub allDone : ℕ → RxEvent → List Claim → List ℕ → List �
 allDone o e [] a = a
 allDone o e (c ∷ cs) a = allDone o e cs (done o e a c)
 
--- the failure bit of the Rx frame whose record is at a place of the plan, written where its indicator is enabled
+-- the failure bit of the Rx frame whose fields begin at a place of the plan, written where its indicator is enabled
 unfoldable pub failureWritten : ℕ → ℕ → List ℕ → ℕ → List ℕ
 failureWritten o v a at =
-    pick (eqb (rxAt (stored a) at .enable) 1) (setBit o a (spot (failureTx a at % 256) (rxAt (stored a) at .position)) v) a
+    pick (eqb (rxThere a at .enable) 1) (setBit o a (spot (failureTx a at % 256) (rxThere a at .position)) v) a

@@ -1,18 +1,21 @@
 -- The area: where each part stands, and what is read there. docs/AREA.md has the table.
 -- A number that is read from the area is brought into range here, so that every definition is exact on an area full of garbage.
-use Prim.Native.Nat.{ℕ, _+_, _*_, _%_, _≤_}
+use Prim.Native.Nat.{ℕ, _+_, _-_, _*_, _%_, _≤_}
 use mathlib.Core.Bool.{Bool, false}
 use mathlib.Core.List.{List}
 use mathlib.Core.Option.{none}
 use lib.Dec.{leb, ltb, eqb}
 use lib.ListN.{length, take, drop}
 use Rattle.base.specs.Pick.{pick}
-use Rattle.base.specs.Numbers.{byteAt, twoAt, lowAt, atMost}
+use Rattle.base.specs.Numbers.{byteAt, twoAt, fourAt, lowAt, atMost}
+use Rattle.records.specs.declared.record.Id.{Id}
+use Rattle.records.specs.declared.record.Id.the-variants.{Standard, Extended}
 use Rattle.records.specs.declared.record.NodeType.{NodeType}
 use Rattle.records.specs.declared.record.NodeType.the-variants.{Can, Lin}
 use Rattle.records.specs.declared.record.TxFrame.{TxFrame}
 use Rattle.records.specs.declared.record.RxFrame.{RxFrame}
-use Rattle.records.specs.Kinds.{txAt, rxAt, rxBytes, signalBytes}
+use Rattle.records.specs.Views.{noRx}
+use Rattle.records.specs.Kinds.{txAt, rxAt, rxFields, signalBytes}
 use Rattle.records.specs.Records.{recordsAt}
 use Rattle.plan.specs.Shortest.{shortestArea}
 use Rattle.plan.specs.Rows.{Claim, withFailure, claimsFrom, awaited}
@@ -85,8 +88,11 @@ keysStart = 3024
 abbrev pub rxPlacesStart : ℕ
 rxPlacesStart = 4048
 
-abbrev pub rowsEnd : ℕ
-rowsEnd = 4560
+abbrev pub homesStart : ℕ
+homesStart = 4560
+
+abbrev pub homesEnd : ℕ
+homesEnd = 5072
 
 abbrev pub entriesStart : ℕ
 entriesStart = 5360
@@ -110,9 +116,9 @@ planStart = 8960
 abbrev pub planRoom : ℕ
 planRoom = 23808
 
--- the last place in it at which an Rx frame with its first signal and destination has room
+-- the last place in it at which an Rx frame's fields behind its ID, with its first signal and destination, have room
 abbrev pub lastPlace : ℕ
-lastPlace = 23790
+lastPlace = 23794
 
 -- how many bytes a key has, and a kept payload
 abbrev pub keySize : ℕ
@@ -120,6 +126,14 @@ keySize = 4
 
 abbrev pub payloadWidth : ℕ
 payloadWidth = 8
+
+-- a frame's home is its node, and this where its ID has 29 bits
+abbrev pub extendedHome : ℕ
+extendedHome = 16
+
+-- a 29-bit ID is below this: "0 to 536,870,911" (document 02, Ticket 6)
+abbrev pub extendedRange : ℕ
+extendedRange = 536870912
 
 -- the numbers of what can wait in a queue: a Tx frame has its own, the request for an Rx frame has one past these
 abbrev pub requestsStart : ℕ
@@ -185,6 +199,9 @@ key r = keysStart + keySize * r
 abbrev pub rxPlace : ℕ → ℕ
 rxPlace r = rxPlacesStart + 2 * r
 
+abbrev pub home : ℕ → ℕ
+home k = homesStart + k
+
 abbrev pub entry : ℕ → ℕ
 entry k = entriesStart + 2 * k
 
@@ -243,12 +260,16 @@ rowCount a n = lowAt a (node n + 2) % rowRange
 abbrev pub keyAt : List ℕ → ℕ → ℕ
 keyAt a r = lowAt a (key r + 2) * 65536 + lowAt a (key r)
 
--- where the records of Tx frame t and Rx frame r begin in the plan
-abbrev pub txRecordPlace : List ℕ → ℕ → ℕ
-txRecordPlace a t = atMost lastPlace (lowAt a (txPlace t))
+-- where the fields behind the IDs of Tx frame t and Rx frame r begin in the plan
+abbrev pub txFieldsPlace : List ℕ → ℕ → ℕ
+txFieldsPlace a t = atMost lastPlace (lowAt a (txPlace t))
 
-abbrev pub rxRecordPlace : List ℕ → ℕ → ℕ
-rxRecordPlace a r = atMost lastPlace (lowAt a (rxPlace r))
+abbrev pub rxFieldsPlace : List ℕ → ℕ → ℕ
+rxFieldsPlace a r = atMost lastPlace (lowAt a (rxPlace r))
+
+-- the node of what has number k in a queue
+abbrev pub homeNode : List ℕ → ℕ → ℕ
+homeNode a k = byteAt a (home k) % 16
 
 -- a size, brought into range: of a plan's sizes each stays
 abbrev pub inWidth : ℕ → ℕ
@@ -272,21 +293,33 @@ planOf a = take (planLength a) (drop planStart a)
 unfoldable pub stored : List ℕ → List ℕ
 stored a = take planRoom (drop planStart a)
 
--- Tx frame t and Rx frame r, by the tables of places
+-- the ID of what has number k in a queue, and whose fields behind the ID begin at a place of the plan: the two or four bytes before that place. They are
+-- read as bytes of the area, so that there are some before the plan's first byte too
+unfoldable pub idBefore : List ℕ → ℕ → ℕ → Id
+idBefore a k at =
+    pick (ltb (byteAt a (home k)) extendedHome)
+    (Standard (twoAt a (planStart + at - 2)))
+    (Extended (fourAt a (planStart + at - 4) % extendedRange))
+
+-- Tx frame t and Rx frame r, by the tables of homes and places
 unfoldable pub txFrame : List ℕ → ℕ → TxFrame
-txFrame a t = txAt (stored a) (txRecordPlace a t)
+txFrame a t = txAt (homeNode a t) (idBefore a t (txFieldsPlace a t)) (stored a) (txFieldsPlace a t)
 
 unfoldable pub rxFrame : List ℕ → ℕ → RxFrame
-rxFrame a r = rxAt (stored a) (rxRecordPlace a r)
+rxFrame a r = rxAt (homeNode a (requestsStart + r)) (idBefore a (requestsStart + r) (rxFieldsPlace a r)) (stored a) (rxFieldsPlace a r)
 
--- the Tx frame of the first destination of the Rx frame whose record is at a place: one signal stands between the two
+-- an Rx frame's fields behind the ID, which begin at a place; of node and ID it says nothing
+abbrev pub rxThere : List ℕ → ℕ → RxFrame
+rxThere a at = rxAt (noRx .node) (noRx .id) (stored a) at
+
+-- the Tx frame of the first destination of the Rx frame whose fields begin at a place: one signal stands between the two
 abbrev pub failureTx : List ℕ → ℕ → ℕ
-failureTx a at = twoAt (stored a) (at + rxBytes + signalBytes + 1)
+failureTx a at = twoAt (stored a) (at + rxFields + signalBytes + 1)
 
--- the claims of the Rx frame r whose record is at a place: the failure bit, where its indicator is enabled, and then the copies
+-- the claims of the Rx frame r whose fields begin at a place: the failure bit, where its indicator is enabled, and then the copies
 unfoldable pub claimsAt : List ℕ → ℕ → ℕ → List Claim
 claimsAt a r at =
-    withFailure r (awaited (rxAt (stored a) at)) (failureTx a at) (claimsFrom r none 0 0 (recordsAt (stored a) (at + rxBytes)))
+    withFailure r (awaited (rxThere a at)) (failureTx a at) (claimsFrom r none 0 0 (recordsAt (stored a) (at + rxFields)))
 
 unfoldable pub claims : List ℕ → ℕ → List Claim
-claims a r = claimsAt a r (rxRecordPlace a r)
+claims a r = claimsAt a r (rxFieldsPlace a r)

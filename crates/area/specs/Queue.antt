@@ -10,7 +10,7 @@ use Rattle.base.specs.Numbers.{byteAt, lowAt, setLow}
 use Rattle.records.specs.declared.record.Entry.{Entry}
 use Rattle.records.specs.declared.record.Entry.the-variants.{Frame, Request}
 use Rattle.records.specs.Nodes.{frame, request}
-use Rattle.area.specs.Layout.{requestsStart, waiterRange, entryCount, queue, entry, waits, txReload, txTimer, txFrame, rxFrame}
+use Rattle.area.specs.Layout.{requestsStart, waiterRange, entryCount, queue, entry, waits, txReload, txTimer, homeNode}
 use Rattle.area.specs.declared.queue.Ends.{Ends}
 
 -- how many entries node n's ring has room for
@@ -69,14 +69,14 @@ queued a n k = setEnds (setLow a (slot (endsOf a n) (behind (endsOf a n) (endsOf
 unfoldable pub scheduled : List ℕ → ℕ → List ℕ
 scheduled a t =
     pick (eqb (byteAt a (waits t)) 0)
-    (set (set (queued a (txFrame a t .node % 16) t) (waits t) 1) (txTimer t) (byteAt a (txReload t)))
+    (set (set (queued a (homeNode a t) t) (waits t) 1) (txTimer t) (byteAt a (txReload t)))
     a
 
 -- "expiry queues a request, once while it waits" (document 02, Ticket 2)
 unfoldable pub requested : List ℕ → ℕ → List ℕ
 requested a r =
     pick (eqb (byteAt a (waits (requestsStart + r))) 0)
-    (set (queued a (rxFrame a r .node % 16) (requestsStart + r)) (waits (requestsStart + r)) 1)
+    (set (queued a (homeNode a (requestsStart + r)) (requestsStart + r)) (waits (requestsStart + r)) 1)
     a
 
 -- the number of what has waited longest on node n

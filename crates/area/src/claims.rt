@@ -13,9 +13,8 @@ ghost use mathlib.Core.List.{List};
 ghost use Prim.Native.Nat.{ℕ, _≤_, _<_};
 ghost use Rattle.base.specs.Numbers.{atMost};
 ghost use Rattle.bits.specs.Word.{Bits, onesOf};
-ghost use Rattle.records.specs.Kinds.{rxAt};
 ghost use Rattle.plan.specs.Rows.{copy};
-ghost use Rattle.area.specs.Layout.{lastPlace, LongEnough, stored};
+ghost use Rattle.area.specs.Layout.{lastPlace, LongEnough, rxThere};
 ghost use Rattle.area.specs.Claims.{accepted, sentIf, done, failureWritten};
 
 // Tx frame `t` is scheduled where its flags say so: 1 always, 2 where a bit of it changed.
@@ -34,11 +33,11 @@ fn send_if(flags: u8, changed: bool, area: &mut [u8], t: TxNumber)
     }
 }
 
-// The failure bit of the Rx frame whose record is at `at` becomes `v`, where its indicator is enabled. That schedules nothing.
+// The failure bit of the Rx frame whose fields begin at `at` becomes `v`, where its indicator is enabled. That schedules nothing.
 pub fn write_failure(order: u8, v: u8, area: &mut [u8], at: usize)
     requires { ⌜ (v < 2) × (at ≤ lastPlace) × LongEnough (now area) ⌝ }
     ensures bytes { λ r. ⌜ now (area .exit) ≡ failureWritten order v (now (area .entry)) at ⌝ }
-    ensures narrow { λ r. ⌜ rxAt (stored (now (area .entry))) at .position < 256 ⌝ }
+    ensures narrow { λ r. ⌜ rxThere (now (area .entry)) at .position < 256 ⌝ }
 {
     let q = rx_position(area, at);
     if rx_enable(area, at) == 1 {

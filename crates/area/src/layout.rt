@@ -4,8 +4,8 @@ use records::record::RxNumber;
 use records::record::TxNumber;
 ghost use mathlib.Core.Path.{_≡_};
 ghost use Prim.Native.Nat.{_%_, _<_};
-ghost use Rattle.area.specs.Layout.{rowBound, node, queue, txReload, rxReload, txTimer, rxTimer, long, full};
-ghost use Rattle.area.specs.Layout.{txPlace, key, rxPlace, payload, txMask, rxMask, inWidth};
+ghost use Rattle.area.specs.Layout.{waiterRange, rowBound, node, queue, txReload, rxReload, txTimer, rxTimer, long, full};
+ghost use Rattle.area.specs.Layout.{txPlace, key, rxPlace, home, payload, txMask, rxMask, inWidth};
 
 pub const AREA_LENGTH: usize = 32768;
 
@@ -49,6 +49,8 @@ pub const KEYS_START: usize = 3024;
 
 pub const RX_PLACES_START: usize = 4048;
 
+pub const HOMES_START: usize = 4560;
+
 pub const ENTRIES_START: usize = 5360;
 
 pub const PAYLOADS_START: usize = 6384;
@@ -62,13 +64,19 @@ pub const PLAN_START: usize = 8960;
 
 pub const PLAN_ROOM: usize = 23808;
 
-// the last place in it at which an Rx frame with its first signal and destination has room
-pub const LAST_PLACE: usize = 23790;
+// the last place in it at which an Rx frame's fields behind its ID, with its first signal and destination, have room
+pub const LAST_PLACE: usize = 23794;
 
 // how many bytes a key has, and a kept payload
 pub const KEY_SIZE: usize = 4;
 
 pub const PAYLOAD_WIDTH: usize = 8;
+
+// a frame's home is its node, and this where its ID has 29 bits
+pub const EXTENDED_HOME: u8 = 16;
+
+// a 29-bit ID is below this
+pub const EXTENDED_RANGE: usize = 536870912;
 
 // the numbers of what can wait in a queue: a Tx frame has its own, the request for an Rx frame has one past these
 pub const REQUESTS_START: usize = 256;
@@ -180,6 +188,14 @@ pub fn rx_place(r: RxNumber) -> usize
     ensures { λ p. ⌜ p ≡ rxPlace (r .0) ⌝ }
 {
     RX_PLACES_START + 2 * r.0
+}
+
+// by the number of what can wait in a queue
+pub fn home(k: usize) -> usize
+    requires { ⌜ k < waiterRange ⌝ }
+    ensures { λ p. ⌜ p ≡ home k ⌝ }
+{
+    HOMES_START + k
 }
 
 pub fn payload(t: TxNumber) -> usize

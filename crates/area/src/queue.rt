@@ -1,7 +1,5 @@
 // A node's queue: scheduling, asking, and taking.
-use crate::frames::rx_node;
-use crate::frames::rx_record_place;
-use crate::frames::tx_node;
+use crate::frames::home_node;
 use crate::layout::ENTRIES_START;
 use crate::layout::ENTRY_COUNT;
 use crate::layout::QUEUES_START;
@@ -120,7 +118,7 @@ pub fn schedule(area: &mut [u8], t: TxNumber)
     ensures { λ r. ⌜ now (area .exit) ≡ scheduled (now (area .entry)) (t .0) ⌝ }
 {
     if area[WAITS_START + t.0] == 0 {
-        let n = tx_node(area, t);
+        let n = home_node(area, t.0);
         let reload = area[TX_RELOADS_START + t.0];
         enqueue(area, n, t.0);
         area[WAITS_START + t.0] = 1;
@@ -135,8 +133,7 @@ pub fn request(area: &mut [u8], r: RxNumber)
 {
     let number = REQUESTS_START + r.0;
     if area[WAITS_START + number] == 0 {
-        let at = rx_record_place(area, r);
-        let n = rx_node(area, at);
+        let n = home_node(area, number);
         enqueue(area, n, number);
         area[WAITS_START + number] = 1;
     }

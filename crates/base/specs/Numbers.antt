@@ -1,4 +1,5 @@
--- Numbers of bytes. "Two-byte numbers have the high byte first.": that is a plan's; those of the area have the low byte first.
+-- Numbers of bytes. "Two-byte numbers have the high byte first.": that is a plan's, and so have its four-byte ones; those of the area have the low byte
+-- first.
 use Prim.Native.Nat.{ℕ, _+_, _*_, _/_, _%_, _<_}
 use mathlib.Core.List.{List}
 use lib.Dec.{ltb}
@@ -17,7 +18,11 @@ Bytes s = (k : ℕ) → byteAt s k < 256
 abbrev pub twoAt : List ℕ → ℕ → ℕ
 twoAt s k = byteAt s k * 256 + byteAt s (k + 1)
 
--- the same with the low byte first
+-- the four-byte number that begins at a place
+abbrev pub fourAt : List ℕ → ℕ → ℕ
+fourAt s k = twoAt s k * 65536 + twoAt s (k + 2)
+
+-- a two-byte number with the low byte first
 abbrev pub lowAt : List ℕ → ℕ → ℕ
 lowAt s k = byteAt s (k + 1) * 256 + byteAt s k
 

@@ -1,8 +1,8 @@
-// What every crate above uses: a byte as a wide number, numbers of two bytes, and a number brought into range.
+// What every crate above uses: a byte as a wide number, numbers of two and four bytes, and a number brought into range.
 ghost use mathlib.Core.Path.{_≡_};
-ghost use Prim.Native.Nat.{_+_, _≤_, _<_};
+ghost use Prim.Native.Nat.{_+_, _^_, _≤_, _<_};
 ghost use lib.ListN.{length};
-ghost use Rattle.base.specs.Numbers.{twoAt, lowAt, setLow, atMost};
+ghost use Rattle.base.specs.Numbers.{twoAt, fourAt, lowAt, setLow, atMost};
 
 // A byte, wide enough to be an index.
 pub fn wide(byte: u8) -> usize
@@ -17,6 +17,14 @@ pub fn two_at(bytes: &[u8], at: usize) -> usize
     ensures { λ r. ⌜ (r ≡ twoAt (now (bytes .entry)) at) × (r < 65536) ⌝ }
 {
     wide(bytes[at]) * 256 + wide(bytes[at + 1])
+}
+
+// The number in the four bytes from `at` on, the high byte first.
+pub fn four_at(bytes: &[u8], at: usize) -> usize
+    requires { ⌜ at + 4 ≤ length (now bytes) ⌝ }
+    ensures { λ r. ⌜ (r ≡ fourAt (now (bytes .entry)) at) × (r < 2 ^ 32) ⌝ }
+{
+    two_at(bytes, at) * 65536 + two_at(bytes, at + 2)
 }
 
 // The number in the two bytes from `at` on, the low byte first.

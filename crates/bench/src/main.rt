@@ -17,6 +17,7 @@ use opening::open::open;
 use polling::respond::respond;
 use polling::silence::no_response;
 use reception::receive::receive;
+use records::record::Id;
 use taking::payload;
 use taking::take;
 use ticking::tick::tick;
@@ -24,6 +25,7 @@ ghost use mathlib.Core.Path.{_≡_};
 ghost use mathlib.Core.List.{_++_};
 ghost use Prim.Native.Nat.{_+_, _%_, _≤_, _<_};
 ghost use lib.ListN.{length, take, replicate};
+ghost use Rattle.records.specs.Ids.{behindId};
 ghost use Rattle.area.specs.Layout.{areaLength};
 ghost use Rattle.reception.specs.Reception.{receivedArea};
 ghost use Rattle.polling.specs.Polling.{respondedArea, silentArea};
@@ -48,22 +50,15 @@ struct Begun {
 }
 
 // A reception, a response on LIN, "no response", a tick, a take: each writes its line at the start of the buffer, and answers how long the line is.
-fn received(
-    input: &[u8],
-    at: usize,
-    node: usize,
-    id: usize,
-    area: &mut [u8],
-    line: &mut [u8],
-) -> usize
-    requires { ⌜ (at + 13 ≤ length (now input)) × (2048 ≤ length (now line)) ⌝ }
-    ensures text { λ r. ⌜ LineIs (receivedText (now (area .entry)) node id (payloadAt (now (input .entry)) at))
+fn received(input: &[u8], at: usize, node: usize, id: Id, area: &mut [u8], line: &mut [u8]) -> usize
+    requires { ⌜ (at + behindId id + 9 ≤ length (now input)) × (2048 ≤ length (now line)) ⌝ }
+    ensures text { λ r. ⌜ LineIs (receivedText (now (area .entry)) node id (payloadAt (now (input .entry)) (at + behindId id)))
         (now (line .entry)) (now (line .exit)) r ⌝ }
-    ensures bytes { λ r. ⌜ now (area .exit) ≡ receivedArea (now (area .entry)) node (id % 65536) (payloadAt (now (input .entry)) at) ⌝ }
+    ensures bytes { λ r. ⌜ now (area .exit) ≡ receivedArea (now (area .entry)) node id (payloadAt (now (input .entry)) (at + behindId id)) ⌝ }
 {
     let mut data = [0u8; 9];
-    let n = payload_at(input, at, &mut data);
-    let answer = receive(area, node, (id % 65536) as u32, &data[..n]);
+    let n = payload_at(input, at + id.behind(), &mut data);
+    let answer = receive(area, node, id, &data[..n]);
     rx_line(answer, line)
 }
 
@@ -77,12 +72,12 @@ fn responded(
     line: &mut [u8],
 ) -> usize
     requires { ⌜ (at + 13 ≤ length (now input)) × (2048 ≤ length (now line)) ⌝ }
-    ensures text { λ r. ⌜ LineIs (respondedText (now (area .entry)) node id (payloadAt (now (input .entry)) at) sum)
+    ensures text { λ r. ⌜ LineIs (respondedText (now (area .entry)) node id (payloadAt (now (input .entry)) (at + 4)) sum)
         (now (line .entry)) (now (line .exit)) r ⌝ }
-    ensures bytes { λ r. ⌜ now (area .exit) ≡ respondedArea (now (area .entry)) node (id % 65536) (payloadAt (now (input .entry)) at) sum ⌝ }
+    ensures bytes { λ r. ⌜ now (area .exit) ≡ respondedArea (now (area .entry)) node (id % 65536) (payloadAt (now (input .entry)) (at + 4)) sum ⌝ }
 {
     let mut bytes = [0u8; 9];
-    let n = payload_at(input, at, &mut bytes);
+    let n = payload_at(input, at + 4, &mut bytes);
     let answer = respond(area, node, (id % 65536) as u32, &bytes[..n], sum);
     response_line(answer, line)
 }
@@ -129,7 +124,7 @@ fn event(input: &[u8], at: usize, area: &mut [u8], rx: usize, line: &mut [u8]) -
             length: _,
         } => Step {
             size: received(input, at, node, id, area, line),
-            next: at + 13,
+            next: at + id.behind() + 9,
         },
         Event::Tick => Step {
             size: ticked(area, rx, line),

@@ -4,10 +4,11 @@ use Rattle.model.proofs.Decide.{rules-decide}
 use Rattle.model.proofs.RxExpiry.{rx-expiry}
 use Rattle.model.proofs.AskExpiry.{ask-expiry, ask-silence}
 use Rattle.model.proofs.TxExpiry.{tx-expiry}
-use Rattle.model.proofs.Listing.{listing-answered, gaps-answered, polling-answered}
+use Rattle.model.proofs.Listing.{listing-answered, gaps-answered, polling-answered, bridge-answered}
 use Rattle.history.proofs.LongTimeouts.{long-timeouts}
 use Rattle.history.proofs.LongSilences.{long-silences}
 use Rattle.history.proofs.Strangers.{strangers-belong}
+use Rattle.history.proofs.Formats.{places-by-format}
 use Rattle.refines.proofs.All.{as-the-model}
 use Rattle.refines.proofs.Once.{waits-once}
 use Rattle.refines.proofs.Listing.{listing-on-bytes}
@@ -40,6 +41,8 @@ demand-2 =
       long-silences = long-silences;
       polling = polling-answered;
       strangers = strangers-belong;
+      formats = places-by-format;
+      bridge = bridge-answered;
       listing = listing-answered;
       on-bytes = listing-on-bytes;
     }

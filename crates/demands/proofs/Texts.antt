@@ -1,4 +1,5 @@
 -- The second texts.
+use Rattle.records.proofs.IdLaws.{keys-in-order}
 use Rattle.encoding.proofs.Decode.{decodes-encoded}
 use Rattle.encoding.proofs.Encode.{encodes-good}
 use Rattle.encoding.proofs.Sizes.{sizes-agree}
@@ -25,6 +26,7 @@ texts =
       sizes = sizes-agree;
       broken = broken-exactly;
       kinds = kinds-hold;
+      keys = keys-in-order;
       said = good-said;
       written = written;
       refused = refused-exactly;

@@ -8,6 +8,7 @@ use mathlib.Core.List.{List, []}
 use Prim.Native.Nat.{ℕ, _≤_, _<_}
 use lib.ListN.{length}
 use Rattle.base.specs.Numbers.{byteAt, Bytes}
+use Rattle.records.specs.declared.record.Id.{Id}
 use Rattle.records.specs.Records.{records}
 use Rattle.plan.specs.declared.verdict.Reason.{Reason}
 use Rattle.plan.specs.Refusals.{numberOf}
@@ -54,7 +55,7 @@ pub record OpeningAnswers (plan a : List ℕ) : Type 0 where
 -- ---- 11: "in a call, the area is shorter than 32,768 bytes or does not begin with hex 47 57"
 
 pub record NotOpened (a : List ℕ) : Type 0 where
-  pub reception : (n id : ℕ) (payload : List ℕ) → (receivedAnswer a n id payload ≡ ofReception.Refused NotOpen) ↔ (Marked a → ⊥)
+  pub reception : (n : ℕ) (id : Id) (payload : List ℕ) → (receivedAnswer a n id payload ≡ ofReception.Refused NotOpen) ↔ (Marked a → ⊥)
   pub response : (n id : ℕ) (payload : List ℕ) (sum : ℕ) → (respondedAnswer a n id payload sum ≡ ofResponse.Refused NotOpen) ↔ (Marked a → ⊥)
   pub noResponse : (n id : ℕ) → (silentAnswer a n id ≡ ofSilence.Refused NotOpen) ↔ (Marked a → ⊥)
   pub tick : (report : List ℕ) → (tickAnswer a report ≡ ofTick.Refused NotOpen) ↔ (Marked a → ⊥)
@@ -65,7 +66,7 @@ pub record NotOpened (a : List ℕ) : Type 0 where
 
 pub record RefusalsWriteNothing (a : List ℕ) : Type 0 where
   pub of-opening : (plan : List ℕ) (why : Refusal) (at : ℕ) → openAnswer plan a ≡ ofOpening.Refused why at → stepped a (opening plan) ≡ a
-  pub of-reception : (n id : ℕ) (payload : List ℕ) (why : Refusal) → receivedAnswer a n id payload ≡ ofReception.Refused why
+  pub of-reception : (n : ℕ) (id : Id) (payload : List ℕ) (why : Refusal) → receivedAnswer a n id payload ≡ ofReception.Refused why
       → areaAfter a (reception n id payload) ≡ a
   pub of-response : (n id : ℕ) (payload : List ℕ) (sum : ℕ) (why : Refusal) → respondedAnswer a n id payload sum ≡ ofResponse.Refused why
       → areaAfter a (response n id payload sum) ≡ a

@@ -2,14 +2,16 @@
 -- AN3333 as document 01 states them: each rule's case is acted on, and nothing else is." And, of document 02, Ticket 1: "The long counter must start
 -- again at every accepted reception, so that a long timeout means that many expiries in a row." Ticket 4: "A lookup that finds nothing should say how
 -- many of that node's rows have a smaller ID. Answer 1 carries this number". Ticket 2: the pumps on LIN. Ticket 14: "a node's queue never holds more than
--- the frames and requests which can be scheduled on it".
+-- the frames and requests which can be scheduled on it". Ticket 6: 29-bit identifiers from the bridge.
 use Rattle.model.specs.Rules.{ModelMeets, RulesDecide}
 use Rattle.model.specs.Timers.{RxExpiry, AskExpiry, AskSilence, TxExpiry}
 use Rattle.model.specs.Listing.{ListingAnswered}
 use Rattle.model.specs.ShortGaps.{GapsAnswered}
 use Rattle.model.specs.Polling.{PollingAnswered}
+use Rattle.model.specs.Bridge.{BridgeAnswered}
 use Rattle.history.specs.LongTimeouts.{LongTimeouts, LongSilences}
 use Rattle.history.specs.Strangers.{StrangersBelong}
+use Rattle.history.specs.Formats.{PlacesByFormat}
 use Rattle.refines.specs.Shows.{AsTheModel, WaitsOnce}
 use Rattle.refines.specs.Listing.{ListingOnBytes}
 use Rattle.queues.specs.Turns.{LeavesInTurn, AsIfAtOnce}
@@ -50,6 +52,10 @@ pub record Demand2 : Type 0 where
   pub polling : PollingAnswered
   -- "its place in the plan sheet": over any calls, from what the caller sees, in the plan's terms
   pub strangers : StrangersBelong
+  -- "11-bit rows come before 29-bit ones, each in ascending order, and the place of Ticket 4 counts in that order": by the numbers of the IDs
+  pub formats : PlacesByFormat
+  -- "ID 32 in one format is not ID 32 in the other", as a case
+  pub bridge : BridgeAnswered
   -- document 01's listing, of the model and of the bytes
   pub listing : ListingAnswered
   pub on-bytes : ListingOnBytes

@@ -1,4 +1,5 @@
 -- What the model, the rules and the byte definitions all use, each said a second time in other words, and proved to be one.
+use Rattle.records.specs.Keys.{KeysInOrder}
 use Rattle.encoding.specs.Encode.{DecodesEncoded, EncodesGood, SizesAgree, BrokenExactly}
 use Rattle.encoding.specs.KindCases.{KindsHold}
 use Rattle.claims.specs.Statements.{GoodSaid}
@@ -18,6 +19,8 @@ pub record Texts : Type 0 where
   pub sizes : SizesAgree
   pub broken : BrokenExactly
   pub kinds : KindsHold
+  -- the key of an ID, by numbers: one for both formats
+  pub keys : KeysInOrder
   -- its frames, rows, claims and owners, by splitting its records
   pub said : GoodSaid
   pub written : Written

@@ -11,54 +11,54 @@ use Rattle.base.specs.Numbers.{byteAt}
 use Rattle.base.specs.Pick.{pick}
 use Rattle.records.specs.declared.record.Record.the-variants.{Broken}
 use Rattle.records.specs.declared.record.Fault.the-variants.{BadKind, Cut}
-use Rattle.records.specs.Kinds.{formOf, lengthOf, fieldsAt}
+use Rattle.records.specs.Kinds.{formOf, lengthOf, txRecord, rxRecord, fieldsAt}
 use Rattle.records.specs.Records.{recordAt}
-use Rattle.records.proofs.RecordLaws.{record-end, end-only, record-bad, record-cut, record-whole}
+use Rattle.records.proofs.RecordLaws.{by-kind-byte, no-length, record-end, end-only, record-bad, record-cut, record-whole}
 use Rattle.encoding.specs.Encode.{Whole, BrokenExactly}
-use Rattle.encoding.proofs.Sizes.{by-number, unknown}
 
 -- a record of a kind has bytes, and its fields are a whole record
-known : (kind : ℕ) → 0 < kind → kind ≤ 6 → 0 < lengthOf kind
+known : (kind : ℕ) → 0 < kind → kind ≤ 8 → 0 < lengthOf kind
 unfolding lengthOf formOf pick
 known kind l h =
-    by-number (λ k. 0 < lengthOf k) (omega arith) (omega arith) (omega arith) (omega arith) (omega arith) (omega arith) kind (λ d. absurd (d l h))
+    by-kind-byte (λ k. 0 < lengthOf k) (omega arith) (omega arith) (omega arith) (omega arith) (omega arith) (omega arith) (omega arith) (omega arith) kind
+    (λ d. absurd (d l h))
 
-fields-whole : (kind : ℕ) (plan : List ℕ) (at : ℕ) → 0 < kind → kind ≤ 6 → Whole (fieldsAt kind plan at)
-unfolding fieldsAt formOf pick Whole
-fields-whole kind plan at l h = by-number (λ k. Whole (fieldsAt k plan at)) tt tt tt tt tt tt kind (λ d. absurd (d l h))
+fields-whole : (kind : ℕ) (plan : List ℕ) (at : ℕ) → 0 < kind → kind ≤ 8 → Whole (fieldsAt kind plan at)
+unfolding fieldsAt txRecord rxRecord formOf pick Whole
+fields-whole kind plan at l h = by-kind-byte (λ k. Whole (fieldsAt k plan at)) tt tt tt tt tt tt tt tt kind (λ d. absurd (d l h))
 
 module _ (plan : List ℕ) (at : ℕ) (inside : at < length plan) where
   abbrev kind : ℕ
   kind = byteAt plan at
 
-  abbrev NoKind : Type 0
-  NoKind = (kind ≡ 0) ⊎ (6 < kind)
+  abbrev Unknown : Type 0
+  Unknown = (kind ≡ 0) ⊎ (8 < kind)
 
   abbrev Short : ℕ → Type 0
-  Short k = (kind ≡ k) × (0 < k) × (k ≤ 6) × (length plan < at + lengthOf k)
+  Short k = (kind ≡ k) × (0 < k) × (k ≤ 8) × (length plan < at + lengthOf k)
 
   -- one of three stands there
-  bad-there : NoKind → recordAt plan at ≡ Broken BadKind
-  bad-there w = sym (record-bad plan at inside (unknown kind (λ l h. ⊎-elim (λ e. omega arith) (λ e. omega arith) w)))
+  bad-there : Unknown → recordAt plan at ≡ Broken BadKind
+  bad-there w = sym (record-bad plan at inside (sym (no-length kind (λ l h. ⊎-elim (λ e. omega arith) (λ e. omega arith) w))))
 
   cut-there : (k : ℕ) → Short k → recordAt plan at ≡ Broken (Cut k)
   cut-there k w =
       let same : lengthOf kind ≡ lengthOf k = ap lengthOf (w .0) in
       sym (record-cut plan at inside (omega (arith, known k (w .1) (w .2))) (omega arith)) ∙ ap (λ (k : ℕ). Broken (Cut k)) (w .0)
 
-  whole-there : 0 < kind → kind ≤ 6 → at + lengthOf kind ≤ length plan → Whole (recordAt plan at)
+  whole-there : 0 < kind → kind ≤ 8 → at + lengthOf kind ≤ length plan → Whole (recordAt plan at)
   whole-there l h m = rw (← (record-whole plan at inside (known kind l h) (omega arith))) (fields-whole kind plan at l h)
 
-  there : NoKind ⊎ (Short kind ⊎ Whole (recordAt plan at))
-  there = go (decLt 0 kind) (decLe kind 6) (decLt (length plan) (at + lengthOf kind))
+  there : Unknown ⊎ (Short kind ⊎ Whole (recordAt plan at))
+  there = go (decLt 0 kind) (decLe kind 8) (decLt (length plan) (at + lengthOf kind))
     where
-      go : Dec (0 < kind) → Dec (kind ≤ 6) → Dec (length plan < at + lengthOf kind) → NoKind ⊎ (Short kind ⊎ Whole (recordAt plan at))
+      go : Dec (0 < kind) → Dec (kind ≤ 8) → Dec (length plan < at + lengthOf kind) → Unknown ⊎ (Short kind ⊎ Whole (recordAt plan at))
       go (no l) h m = inl (inl (omega arith))
       go (yes l) (no h) m = inl (inr (omega arith))
       go (yes l) (yes h) (yes m) = inr (inl (refl, l, h, m))
       go (yes l) (yes h) (no m) = inr (inr (whole-there l h (omega arith)))
 
-  bad-only : recordAt plan at ≡ Broken BadKind → NoKind
+  bad-only : recordAt plan at ≡ Broken BadKind → Unknown
   unfolding Whole
   bad-only e =
       ⊎-elim (λ w. w)

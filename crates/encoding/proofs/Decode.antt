@@ -7,7 +7,9 @@ use native.Mathlib.Nat.{add-zero}
 use lib.ListN.{length, length-append}
 use lib.Seq.{getD-append-add}
 use Rattle.base.specs.Pick.{pick}
-use Rattle.base.specs.Numbers.{byteAt, twoAt}
+use Rattle.base.specs.Numbers.{byteAt, twoAt, fourAt}
+use Rattle.records.specs.declared.record.Id.{Id}
+use Rattle.records.specs.declared.record.Id.the-variants.{Standard, Extended}
 use Rattle.records.specs.declared.record.TxFrame.{TxFrame}
 use Rattle.records.specs.declared.record.RxFrame.{RxFrame}
 use Rattle.records.specs.declared.record.NodeBody.{NodeBody}
@@ -15,11 +17,12 @@ use Rattle.records.specs.declared.record.SignalBody.{SignalBody}
 use Rattle.records.specs.declared.record.DestinationBody.{DestinationBody}
 use Rattle.records.specs.declared.record.Record.{Record}
 use Rattle.records.specs.declared.record.Record.the-variants.{Head, Node, Tx, Rx, Signal, Destination, Broken}
-use Rattle.records.specs.Kinds.{formOf, lengthOf, eightAt, txAt, rxAt, fieldsAt}
-use Rattle.records.specs.Records.{recordAt, sizeOf, recordsAt, records}
+use Rattle.records.specs.Ids.{behindId}
+use Rattle.records.specs.Kinds.{formOf, lengthOf, eightAt, txAt, rxAt, txRecord, rxRecord, fieldsAt}
+use Rattle.records.specs.Records.{recordAt, sizeOf, recordsAt, records, eightBytes}
 use Rattle.records.proofs.RecordLaws.{record-whole, records-end, records-step}
 use Rattle.facts.specs.Good.{Each}
-use Rattle.encoding.specs.Encode.{bytesOf, encode, Whole, DecodesPlaced, DecodesEncoded}
+use Rattle.encoding.specs.Encode.{txBegin, rxBegin, bytesOf, encode, Whole, DecodesPlaced, DecodesEncoded}
 use Rattle.encoding.proofs.Sizes.{sizes-agree, some-bytes}
 
 -- a plan with some bytes at a place: what is read there is what they say
@@ -45,6 +48,19 @@ module _ (front xs rest : List ℕ) where
       let g : byteAt plan (at + i + 1) ≡ v % 256 = ap (byteAt plan) (omega arith) ∙ byte (i + 1) ∙ f in
       rw (byte i, e, g) (omega arith)
 
+  -- a four-byte number
+  four : (i v : ℕ) → byteAt (xs ++ rest) i ≡ v / 16777216 → byteAt (xs ++ rest) (i + 1) ≡ v / 65536 % 256
+      → byteAt (xs ++ rest) (i + 2) ≡ v / 256 % 256 → byteAt (xs ++ rest) (i + 2 + 1) ≡ v % 256 → fourAt plan (at + i) ≡ v
+  four i v e f g h =
+      let front = two i (v / 65536) (e ∙ omega arith) f in
+      let place : at + i + 2 ≡ at + (i + 2) = omega arith in
+      let back : twoAt plan (at + i + 2) ≡ v % 65536 = rw place (two (i + 2) (v % 65536) (g ∙ omega arith) (h ∙ omega arith)) in
+      omega (arith, front, back)
+
+  -- the bytes behind some of them
+  behind : (begin ys : List ℕ) → xs ++ rest ≡ begin ++ ys → (i : ℕ) → byteAt plan (at + length begin + i) ≡ byteAt ys i
+  behind begin ys e i = ap (byteAt plan) (omega arith) ∙ byte (length begin + i) ∙ rw e (getD-append-add begin ys i 0)
+
   -- a whole record of a kind that the first byte says
   is-record : (kind : ℕ) (r : Record) → byteAt (xs ++ rest) 0 ≡ kind → lengthOf kind ≡ length xs → 0 < length xs → fieldsAt kind plan at ≡ r
       → recordAt plan at ≡ r
@@ -52,6 +68,77 @@ module _ (front xs rest : List ℕ) where
       let k : byteAt plan at ≡ kind = byte-first ∙ e in
       let inside : at < length plan = omega (arith, enough) in
       sym (record-whole plan at inside (rw (k, l) m) (rw (k, l) enough)) ∙ rw k f
+
+-- ---- a frame's fields behind the ID, read where they stand; and the frame with another ID, so that a proof goes by its format
+
+module _ (x : TxFrame) where
+  abbrev pub txBehind : List ℕ
+  txBehind = x .size ∷ x .prescaler ∷ x .reload ∷ x .initial ∷ x .flags ∷ eightBytes (x .payload)
+
+  abbrev txWith : Id → TxFrame
+  txWith id =
+      record {
+        node = x .node;
+        id = id;
+        size = x .size;
+        prescaler = x .prescaler;
+        reload = x .reload;
+        initial = x .initial;
+        flags = x .flags;
+        payload = x .payload;
+      }
+
+  tx-fields : (plan : List ℕ) (at : ℕ) (rest : List ℕ) → ((i : ℕ) → byteAt plan (at + i) ≡ byteAt (txBehind ++ rest) i) → txAt (x .node) (x .id) plan at ≡ x
+  unfolding txAt eightAt
+  tx-fields plan at rest b =
+      let first = ap (byteAt plan) (sym (add-zero at)) ∙ b 0 in
+      let p : (k : ℕ) → byteAt plan (at + 5 + k) ≡ byteAt (txBehind ++ rest) (5 + k) = λ k. ap (byteAt plan) (omega arith) ∙ b (5 + k) in
+      λ i.
+      record {
+        node = x .node;
+        id = x .id;
+        size = first i;
+        prescaler = b 1 i;
+        reload = b 2 i;
+        initial = b 3 i;
+        flags = b 4 i;
+        payload = record { 0 = b 5 i; 1 = p 1 i; 2 = p 2 i; 3 = p 3 i; 4 = p 4 i; 5 = p 5 i; 6 = p 6 i; 7 = p 7 i };
+      }
+
+module _ (x : RxFrame) where
+  abbrev pub rxBehind : List ℕ
+  rxBehind = x .size ∷ x .prescaler ∷ x .reload ∷ x .initial ∷ x .enable ∷ x .position ∷ x .long ∷ []
+
+  abbrev rxWith : Id → RxFrame
+  rxWith id =
+      record {
+        node = x .node;
+        id = id;
+        size = x .size;
+        prescaler = x .prescaler;
+        reload = x .reload;
+        initial = x .initial;
+        enable = x .enable;
+        position = x .position;
+        long = x .long;
+      }
+
+  rx-fields : (plan : List ℕ) (at : ℕ) (rest : List ℕ) → ((i : ℕ) → byteAt plan (at + i) ≡ byteAt (rxBehind ++ rest) i) → rxAt (x .node) (x .id) plan at ≡ x
+  unfolding rxAt
+  rx-fields plan at rest b =
+      let first = ap (byteAt plan) (sym (add-zero at)) ∙ b 0 in
+      λ i.
+      record {
+        node = x .node;
+        id = x .id;
+        size = first i;
+        prescaler = b 1 i;
+        reload = b 2 i;
+        initial = b 3 i;
+        enable = b 4 i;
+        position = b 5 i;
+        long = b 6 i;
+      }
 
 -- ---- each kind
 
@@ -93,56 +180,42 @@ module _ (front rest : List ℕ) where
           let xs = bytesOf (Destination body) in
           λ i. record { tx = record { 0 = two front xs rest 1 (body .tx .0) refl refl i }; position = byte front xs rest 3 i }
 
-  tx : (x : TxFrame) → Read (Tx x)
-  unfolding bytesOf fieldsAt formOf pick lengthOf
-  tx x = is-record front (bytesOf (Tx x)) rest 3 (Tx x) refl refl (omega arith) (ap Tx fields)
-    where
-      p : (k : ℕ) → byteAt (front ++ (bytesOf (Tx x) ++ rest)) (length front + 9 + k) ≡ byteAt (bytesOf (Tx x) ++ rest) (9 + k)
-      p k = ap (byteAt (front ++ (bytesOf (Tx x) ++ rest))) (omega arith) ∙ byte front (bytesOf (Tx x)) rest (9 + k)
+  tx : (x : TxFrame) (id : Id) → Read (Tx (txWith x id))
+  unfolding bytesOf txBegin fieldsAt txRecord behindId formOf pick lengthOf
+  tx x (Standard n) =
+      let xs = bytesOf (Tx (txWith x (Standard n))) in
+      is-record front xs rest 3 _ refl refl (omega arith)
+      (ap Tx
+      ((λ i. txAt (byte front xs rest 1 i) (Standard (two front xs rest 2 n refl refl i)) (front ++ (xs ++ rest)) (length front + 4))
+      ∙ tx-fields (txWith x (Standard n)) (front ++ (xs ++ rest)) (length front + 4) rest (behind front xs rest (txBegin (x .node) (Standard n)) _ refl)))
+  tx x (Extended n) =
+      let xs = bytesOf (Tx (txWith x (Extended n))) in
+      is-record front xs rest 7 _ refl refl (omega arith)
+      (ap Tx
+      ((λ i. txAt (byte front xs rest 1 i) (Extended (four front xs rest 2 n refl refl refl refl i)) (front ++ (xs ++ rest)) (length front + 6))
+      ∙ tx-fields (txWith x (Extended n)) (front ++ (xs ++ rest)) (length front + 6) rest (behind front xs rest (txBegin (x .node) (Extended n)) _ refl)))
 
-      fields : txAt (front ++ (bytesOf (Tx x) ++ rest)) (length front) ≡ x
-      fields = unfold txAt eightAt in
-          let xs = bytesOf (Tx x) in
-          let b = byte front xs rest in
-          λ i.
-          record {
-            node = b 1 i;
-            id = two front xs rest 2 (x .id) refl refl i;
-            size = b 4 i;
-            prescaler = b 5 i;
-            reload = b 6 i;
-            initial = b 7 i;
-            flags = b 8 i;
-            payload = record { 0 = b 9 i; 1 = p 1 i; 2 = p 2 i; 3 = p 3 i; 4 = p 4 i; 5 = p 5 i; 6 = p 6 i; 7 = p 7 i };
-          }
-
-  rx : (x : RxFrame) → Read (Rx x)
-  unfolding bytesOf fieldsAt formOf pick lengthOf
-  rx x = is-record front (bytesOf (Rx x)) rest 4 (Rx x) refl refl (omega arith) (ap Rx fields)
-    where
-      fields : rxAt (front ++ (bytesOf (Rx x) ++ rest)) (length front) ≡ x
-      fields = unfold rxAt in
-          let xs = bytesOf (Rx x) in
-          let b = byte front xs rest in
-          λ i.
-          record {
-            node = b 1 i;
-            id = two front xs rest 2 (x .id) refl refl i;
-            size = b 4 i;
-            prescaler = b 5 i;
-            reload = b 6 i;
-            initial = b 7 i;
-            enable = b 8 i;
-            position = b 9 i;
-            long = b 10 i;
-          }
+  rx : (x : RxFrame) (id : Id) → Read (Rx (rxWith x id))
+  unfolding bytesOf rxBegin fieldsAt rxRecord behindId formOf pick lengthOf
+  rx x (Standard n) =
+      let xs = bytesOf (Rx (rxWith x (Standard n))) in
+      is-record front xs rest 4 _ refl refl (omega arith)
+      (ap Rx
+      ((λ i. rxAt (byte front xs rest 1 i) (Standard (two front xs rest 2 n refl refl i)) (front ++ (xs ++ rest)) (length front + 4))
+      ∙ rx-fields (rxWith x (Standard n)) (front ++ (xs ++ rest)) (length front + 4) rest (behind front xs rest (rxBegin (x .node) (Standard n)) _ refl)))
+  rx x (Extended n) =
+      let xs = bytesOf (Rx (rxWith x (Extended n))) in
+      is-record front xs rest 8 _ refl refl (omega arith)
+      (ap Rx
+      ((λ i. rxAt (byte front xs rest 1 i) (Extended (four front xs rest 2 n refl refl refl refl i)) (front ++ (xs ++ rest)) (length front + 6))
+      ∙ rx-fields (rxWith x (Extended n)) (front ++ (xs ++ rest)) (length front + 6) rest (behind front xs rest (rxBegin (x .node) (Extended n)) _ refl)))
 
 pub decodes-placed : DecodesPlaced
 unfolding Whole
 decodes-placed front rest (Head order) w = head front rest order
 decodes-placed front rest (Node body) w = node front rest body
-decodes-placed front rest (Tx x) w = tx front rest x
-decodes-placed front rest (Rx x) w = rx front rest x
+decodes-placed front rest (Tx x) w = tx front rest x (x .id)
+decodes-placed front rest (Rx x) w = rx front rest x (x .id)
 decodes-placed front rest (Signal body) w = signal front rest body
 decodes-placed front rest (Destination body) w = destination front rest body
 decodes-placed front rest (Broken fault) w = absurd w

@@ -6,6 +6,8 @@ use mathlib.Core.Logic.{_⊎_, _↔_}
 use Prim.Native.Nat.{ℕ, _+_, _/_, _%_, _≤_, _<_}
 use lib.ListN.{length}
 use Rattle.base.specs.Numbers.{byteAt, Bytes}
+use Rattle.records.specs.declared.record.Id.{Id}
+use Rattle.records.specs.declared.record.Id.the-variants.{Standard, Extended}
 use Rattle.records.specs.declared.record.Record.{Record}
 use Rattle.records.specs.declared.record.Record.the-variants.{Head, Node, Tx, Rx, Signal, Destination, Broken}
 use Rattle.records.specs.declared.record.Fault.the-variants.{End, BadKind, Cut}
@@ -22,14 +24,26 @@ use Rattle.facts.specs.Good.{Each}
 abbrev pub twoBytes : ℕ → List ℕ
 twoBytes v = v / 256 ∷ v % 256 ∷ []
 
+abbrev pub fourBytes : ℕ → List ℕ
+fourBytes v = v / 16777216 ∷ v / 65536 % 256 ∷ v / 256 % 256 ∷ v % 256 ∷ []
+
+-- "Kinds 7 and 8 are Tx and Rx frames with a four-byte ID .., otherwise as 3 and 4." (document 02, Ticket 6)
+unfoldable pub txBegin : ℕ → Id → List ℕ
+txBegin node (Standard n) = 3 ∷ node ∷ twoBytes n
+txBegin node (Extended n) = 7 ∷ node ∷ fourBytes n
+
+unfoldable pub rxBegin : ℕ → Id → List ℕ
+rxBegin node (Standard n) = 4 ∷ node ∷ twoBytes n
+rxBegin node (Extended n) = 8 ∷ node ∷ fourBytes n
+
 -- no bytes where there is no whole record
 unfoldable pub bytesOf : Record → List ℕ
 bytesOf (Head order) = 1 ∷ order ∷ []
 bytesOf (Node body) = 2 ∷ body .of ∷ []
 bytesOf (Tx x) =
-    3 ∷ x .node ∷ twoBytes (x .id) ++ x .size ∷ x .prescaler ∷ x .reload ∷ x .initial ∷ x .flags ∷ eightBytes (x .payload)
+    txBegin (x .node) (x .id) ++ x .size ∷ x .prescaler ∷ x .reload ∷ x .initial ∷ x .flags ∷ eightBytes (x .payload)
 bytesOf (Rx x) =
-    4 ∷ x .node ∷ twoBytes (x .id) ++ x .size ∷ x .prescaler ∷ x .reload ∷ x .initial ∷ x .enable ∷ x .position ∷ x .long ∷ []
+    rxBegin (x .node) (x .id) ++ x .size ∷ x .prescaler ∷ x .reload ∷ x .initial ∷ x .enable ∷ x .position ∷ x .long ∷ []
 bytesOf (Signal body) = 5 ∷ body .position ∷ body .size ∷ []
 bytesOf (Destination body) = 6 ∷ twoBytes (body .tx .0) ++ body .position ∷ []
 bytesOf (Broken fault) = []
@@ -70,14 +84,15 @@ pub record Sized (r : Record) : Type 0 where
 abbrev pub SizesAgree : Type 0
 SizesAgree = (r : Record) → Whole r → Sized r
 
--- ---- where no whole record stands: 1 "the record runs past its end", 2 "the kind is not 1–6", and the plan's end
+-- ---- where no whole record stands: 1 "the record runs past its end", 2 "the kind is not 1–6", nor 7 or 8 (document 02, Ticket 6), and the
+-- plan's end
 
 pub record BrokenAt (plan : List ℕ) (at : ℕ) : Type 0 where
   pub end : (recordAt plan at ≡ Broken End) ↔ (length plan ≤ at)
-  pub bad : at < length plan → (recordAt plan at ≡ Broken BadKind) ↔ ((byteAt plan at ≡ 0) ⊎ (6 < byteAt plan at))
+  pub bad : at < length plan → (recordAt plan at ≡ Broken BadKind) ↔ ((byteAt plan at ≡ 0) ⊎ (8 < byteAt plan at))
   pub cut :
       at < length plan → (kind : ℕ)
-      → (recordAt plan at ≡ Broken (Cut kind)) ↔ ((byteAt plan at ≡ kind) × (0 < kind) × (kind ≤ 6) × (length plan < at + lengthOf kind))
+      → (recordAt plan at ≡ Broken (Cut kind)) ↔ ((byteAt plan at ≡ kind) × (0 < kind) × (kind ≤ 8) × (length plan < at + lengthOf kind))
 
 abbrev pub BrokenExactly : Type 0
 BrokenExactly = (plan : List ℕ) (at : ℕ) → BrokenAt plan at

@@ -8,12 +8,15 @@
 --   4 Rx frame      10   node 1, ID 2, size 1, prescaler 1, reload 1, initial timer 1, failure enable 1, failure position 1, long count 1
 --   5 signal         2   position, size
 --   6 destination    3   Tx frame 2, position 1
+--   7 Tx frame      18   as 3, with a four-byte ID (document 02, Ticket 6)
+--   8 Rx frame      12   as 4, with a four-byte ID
 use mathlib.Core.Path.{_≡_}
 use mathlib.Core.Bool.{Bool, true, false, not, _&&_, _||_}
 use mathlib.Core.List.{List, [], _∷_}
 use Prim.Native.Nat.{ℕ, _+_}
 use lib.Dec.{eqb}
 use lib.ListN.{length, take}
+use Rattle.records.specs.declared.record.Id.the-variants.{Standard, Extended}
 use Rattle.records.specs.declared.record.Record.{Record}
 use Rattle.records.specs.declared.record.Record.the-variants.{Head, Node, Tx, Rx, Signal, Destination, Broken}
 use Rattle.records.specs.declared.record.Fault.the-variants.{BadKind, Cut}
@@ -40,7 +43,7 @@ kindCases =
           Tx
           (record {
             node = 0x05;
-            id = 0x02A1;
+            id = Standard 0x02A1;
             size = 0x08;
             prescaler = 0x14;
             reload = 0x64;
@@ -57,7 +60,7 @@ kindCases =
           Rx
           (record {
             node = 0x06;
-            id = 0x037B;
+            id = Standard 0x037B;
             size = 0x07;
             prescaler = 0x0A;
             reload = 0x28;
@@ -69,6 +72,43 @@ kindCases =
     }
     ∷ record { kind = 5; body = 2; bytes = 0x05 ∷ 0x3C ∷ 0x04 ∷ []; says = Signal (record { position = 0x3C; size = 0x04 }) }
     ∷ record { kind = 6; body = 3; bytes = 0x06 ∷ 0x01 ∷ 0x02 ∷ 0x09 ∷ []; says = Destination (record { tx = record { 0 = 0x0102 }; position = 0x09 }) }
+    ∷ record {
+      kind = 7;
+      body = 18;
+      bytes =
+          0x07 ∷ 0x05 ∷ 0x19 ∷ 0xF8 ∷ 0x02 ∷ 0xA1 ∷ 0x08 ∷ 0x14 ∷ 0x64 ∷ 0x32 ∷ 0x01
+          ∷ 0xE0 ∷ 0xE1 ∷ 0xE2 ∷ 0xE3 ∷ 0xE4 ∷ 0xE5 ∷ 0xE6 ∷ 0xE7 ∷ [];
+      says =
+          Tx
+          (record {
+            node = 0x05;
+            id = Extended 0x19F802A1;
+            size = 0x08;
+            prescaler = 0x14;
+            reload = 0x64;
+            initial = 0x32;
+            flags = 0x01;
+            payload = record { 0 = 0xE0; 1 = 0xE1; 2 = 0xE2; 3 = 0xE3; 4 = 0xE4; 5 = 0xE5; 6 = 0xE6; 7 = 0xE7 };
+          });
+    }
+    ∷ record {
+      kind = 8;
+      body = 12;
+      bytes = 0x08 ∷ 0x06 ∷ 0x09 ∷ 0xF8 ∷ 0x03 ∷ 0x7B ∷ 0x07 ∷ 0x0A ∷ 0x28 ∷ 0x1E ∷ 0x01 ∷ 0x3F ∷ 0x0F ∷ [];
+      says =
+          Rx
+          (record {
+            node = 0x06;
+            id = Extended 0x09F8037B;
+            size = 0x07;
+            prescaler = 0x0A;
+            reload = 0x28;
+            initial = 0x1E;
+            enable = 0x01;
+            position = 0x3F;
+            long = 0x0F;
+          });
+    }
     ∷ []
 
 -- no byte stands twice
@@ -92,9 +132,9 @@ abbrev pub AllHold : List KindCase → Type 0
 AllHold [] = Unit {0}
 AllHold (c ∷ cs) = KindCaseHolds c × AllHold cs
 
--- the six kinds, and bytes that are no kind: the last before them, the first after them, and the last of all
+-- the eight kinds, and bytes that are no kind: the last before them, the first after them, and the last of all
 pub record KindsHold : Type 0 where
   pub kinds : AllHold kindCases
   pub zero : recordAt (0x00 ∷ 0x01 ∷ []) 0 ≡ Broken BadKind
-  pub seven : recordAt (0x07 ∷ 0x01 ∷ []) 0 ≡ Broken BadKind
+  pub nine : recordAt (0x09 ∷ 0x01 ∷ []) 0 ≡ Broken BadKind
   pub last : recordAt (0xFF ∷ 0x01 ∷ []) 0 ≡ Broken BadKind

@@ -10,6 +10,7 @@ use Rattle.base.proofs.Apart.{differ}
 use Rattle.base.specs.Pick.{pick}
 use Rattle.base.specs.Numbers.{byteAt, twoAt}
 use Rattle.base.proofs.Picks.{picks, passes, cases, by-eqb}
+use Rattle.records.specs.Ids.{behindId}
 use Rattle.events.specs.declared.Event.{Event}
 use Rattle.events.specs.declared.Event.the-variants.{Bad, End}
 use Rattle.events.specs.declared.Front.the-variants as front
@@ -38,30 +39,32 @@ module _ (input : List ℕ) where
   front-plan l c s = (rw (le-ltb _ _ l, le-ltb _ _ c, le-ltb _ _ s), λ end e. let d : 2 + twoAt input 0 ≡ end = cc in omega arith)
 
 -- a byte that is no kind passes every choice by kind
-module _ (kind : ℕ) (n16 : kind ≡ 16 → ⊥) (n17 : kind ≡ 17 → ⊥) (n18 : kind ≡ 18 → ⊥) (n20 : kind ≡ 20 → ⊥) (n21 : kind ≡ 21 → ⊥) where
-  no-kind {ℓ} : {A : Type ℓ} (a b c d e z : A)
-      → z ≡ pick (eqb kind 16) a (pick (eqb kind 17) b (pick (eqb kind 18) c (pick (eqb kind 20) d (pick (eqb kind 21) e z))))
+module _ (kind : ℕ) (n16 : kind ≡ 16 → ⊥) (n17 : kind ≡ 17 → ⊥) (n18 : kind ≡ 18 → ⊥) (n19 : kind ≡ 19 → ⊥) (n20 : kind ≡ 20 → ⊥)
+    (n21 : kind ≡ 21 → ⊥) where
+  no-kind {ℓ} : {A : Type ℓ} (a b c d e f z : A)
+      → z ≡ pick (eqb kind 16) a (pick (eqb kind 17) b (pick (eqb kind 18) c (pick (eqb kind 19) d (pick (eqb kind 20) e (pick (eqb kind 21) f z)))))
   unfolding pick
-  no-kind a b c d e z = rw (ne-eqb _ _ n16, ne-eqb _ _ n17, ne-eqb _ _ n18, ne-eqb _ _ n20, ne-eqb _ _ n21)
+  no-kind a b c d e f z = rw (ne-eqb _ _ n16, ne-eqb _ _ n17, ne-eqb _ _ n18, ne-eqb _ _ n19, ne-eqb _ _ n20, ne-eqb _ _ n21)
 
   pub no-length : 0 ≡ eventLength kind
   unfolding eventLength
-  no-length = no-kind _ _ _ _ _ _
+  no-length = no-kind _ _ _ _ _ _ _
 
   pub no-event : (input : List ℕ) (at : ℕ) → Bad ≡ wholeEvent kind input at
   unfolding wholeEvent
-  no-event input at = no-kind _ _ _ _ _ _
+  no-event input at = no-kind _ _ _ _ _ _ _
 
 -- a whole event has the bytes that its kind says
 whole-size : (kind : ℕ) (input : List ℕ) (at : ℕ) → eventSize (wholeEvent kind input at) ≡ eventLength kind
-unfolding wholeEvent eventSize eventLength pick
+unfolding wholeEvent eventSize eventLength behindId pick
 whole-size kind input at =
     let P : Event → Type 0 = λ e. eventSize e ≡ eventLength kind in
     by-eqb P kind 16 _ _ (λ e. rw e) (λ n16.
     by-eqb P kind 17 _ _ (λ e. rw e) (λ n17.
     by-eqb P kind 18 _ _ (λ e. rw e) (λ n18.
+    by-eqb P kind 19 _ _ (λ e. rw e) (λ n19.
     by-eqb P kind 20 _ _ (λ e. rw e) (λ n20.
-    by-eqb P kind 21 _ _ (λ e. rw e) (λ n21. no-length kind n16 n17 n18 n20 n21)))))
+    by-eqb P kind 21 _ _ (λ e. rw e) (λ n21. no-length kind n16 n17 n18 n19 n20 n21))))))
 
 -- the event at a place lies within the input
 within-event : (input : List ℕ) (at : ℕ) → Within input at (eventAt input at)
@@ -91,17 +94,17 @@ module _ (input : List ℕ) (at : ℕ) (h : at < length input) where
 
 -- the payload that is handed on
 module _ (input : List ℕ) (at : ℕ) where
-  pub payload-long : 8 < byteAt input (at + 4) → payloadAt input at ≡ replicate 9 0
+  pub payload-long : 8 < byteAt input at → payloadAt input at ≡ replicate 9 0
   unfolding payloadAt
   payload-long l = picks _ _ _ (lt-ltb _ _ l)
 
-  pub payload-short : byteAt input (at + 4) ≤ 8 → payloadAt input at ≡ take (byteAt input (at + 4)) (drop (at + 5) input)
+  pub payload-short : byteAt input at ≤ 8 → payloadAt input at ≡ take (byteAt input at) (drop (at + 1) input)
   unfolding payloadAt
   payload-short l = passes _ _ _ (le-ltb _ _ l)
 
   pub payload-few : length (payloadAt input at) ≤ 9
   unfolding payloadAt
   payload-few =
-      cases (λ (p : List ℕ). length p ≤ 9) (ltb 8 (byteAt input (at + 4))) _ _
+      cases (λ (p : List ℕ). length p ≤ 9) (ltb 8 (byteAt input at)) _ _
       (λ t. omega arith)
-      (λ t. omega (arith, ltb-false, length-take (byteAt input (at + 4)) (drop (at + 5) input)))
+      (λ t. omega (arith, ltb-false, length-take (byteAt input at) (drop (at + 1) input)))

@@ -1,4 +1,5 @@
 // The bench program's input: where the plan ends, the event at a place, and the payload that a reception or a response hands on.
+use records::record::Id;
 use text::put_word;
 ghost use mathlib.Core.Path.{_≡_};
 ghost use Prim.Native.Nat.{_+_, _≤_, _<_};
@@ -14,10 +15,10 @@ pub enum Front {
 }
 
 pub enum Event {
-    // the data stand by place: eight bytes, five past the record's start
+    // of kind 16 or, with a 29-bit ID, 19; the data stand by place: eight bytes behind the length, which follows the ID
     Reception {
         node: usize,
-        id: usize,
+        id: Id,
         length: usize,
     },
     Tick,
@@ -61,7 +62,7 @@ pub fn front_of(input: &[u8]) -> Front
 
 // How many bytes an event record of a kind has; 0 where there is no such kind.
 fn event_length(kind: u8) -> usize
-    ensures { λ r. ⌜ (r ≡ eventLength kind) × (r ≤ 14) ⌝ }
+    ensures { λ r. ⌜ (r ≡ eventLength kind) × (r ≤ 15) ⌝ }
 {
     if kind == 16 {
         return 13;
@@ -72,6 +73,9 @@ fn event_length(kind: u8) -> usize
     if kind == 18 {
         return 2;
     }
+    if kind == 19 {
+        return 15;
+    }
     if kind == 20 {
         return 14;
     }
@@ -81,7 +85,7 @@ fn event_length(kind: u8) -> usize
     0
 }
 
-// What records say behind their kind: the node, the ID, the data's length.
+// What records say behind their kind: the node, the ID.
 fn node_at(input: &[u8], at: usize) -> usize
     requires { ⌜ at + 2 ≤ length (now input) ⌝ }
     ensures { λ r. ⌜ r ≡ byteAt (now (input .entry)) (at + 1) ⌝ }
@@ -96,13 +100,6 @@ fn id_at(input: &[u8], at: usize) -> usize
     base::two_at(input, at + 2)
 }
 
-fn length_at(input: &[u8], at: usize) -> usize
-    requires { ⌜ at + 5 ≤ length (now input) ⌝ }
-    ensures { λ r. ⌜ (r ≡ byteAt (now (input .entry)) (at + 4)) × (r < 256) ⌝ }
-{
-    base::wide(input[at + 4])
-}
-
 // An event record of a kind that is whole.
 fn whole_event(kind: u8, input: &[u8], at: usize) -> Event
     requires { ⌜ at + eventLength kind ≤ length (now input) ⌝ }
@@ -111,8 +108,8 @@ fn whole_event(kind: u8, input: &[u8], at: usize) -> Event
     if kind == 16 {
         return Event::Reception {
             node: node_at(input, at),
-            id: id_at(input, at),
-            length: length_at(input, at),
+            id: Id::Standard(id_at(input, at)),
+            length: base::wide(input[at + 4]),
         };
     }
     if kind == 17 {
@@ -123,11 +120,18 @@ fn whole_event(kind: u8, input: &[u8], at: usize) -> Event
             node: node_at(input, at),
         };
     }
+    if kind == 19 {
+        return Event::Reception {
+            node: node_at(input, at),
+            id: Id::Extended(base::four_at(input, at + 2)),
+            length: base::wide(input[at + 6]),
+        };
+    }
     if kind == 20 {
         return Event::Response {
             node: node_at(input, at),
             id: id_at(input, at),
-            length: length_at(input, at),
+            length: base::wide(input[at + 4]),
             sum: input[at + 13],
         };
     }
@@ -155,16 +159,16 @@ pub fn event_at(input: &[u8], at: usize) -> Event
     whole_event(kind, input, at)
 }
 
-// The payload that the reception or the response at a place hands on, put at the start of `out`; the answer is its length.
+// The payload that a reception or a response hands on whose length stands at `at`, put at the start of `out`; the answer is its length.
 pub fn payload_at(input: &[u8], at: usize, out: &mut [u8]) -> usize
-    requires { ⌜ (at + 13 ≤ length (now input)) × (9 ≤ length (now out)) ⌝ }
+    requires { ⌜ (at + 9 ≤ length (now input)) × (9 ≤ length (now out)) ⌝ }
     ensures { λ r. ⌜ (Put (now (out .entry)) 0 (payloadAt (now (input .entry)) at) (now (out .exit)) r) × (r ≤ 9) ⌝ }
 {
-    let length = length_at(input, at);
+    let length = base::wide(input[at]);
     if 8 < length {
         return put_word(out, 0, &[0u8; 9]);
     }
-    let start = at + 5;
+    let start = at + 1;
     let end = start + length;
     put_word(out, 0, &input[start..end])
 }

@@ -8,9 +8,11 @@ use lib.ListN.{length}
 use borrow.Author.Tests.{leb-true, leb-false, ne-eqb}
 use Rattle.base.specs.Pick.{pick}
 use Rattle.base.proofs.Picks.{cases, both}
+use Rattle.records.specs.declared.record.Id.{Id}
+use Rattle.records.specs.declared.record.Id.the-variants.{Standard, Extended}
 use Rattle.records.specs.declared.record.Record.{Record}
 use Rattle.records.specs.declared.record.Record.the-variants.{Head, Node, Tx, Rx, Signal, Destination, Broken}
-use Rattle.records.specs.Kinds.{formOf, lengthOf, kindOf, stageOf}
+use Rattle.records.specs.Kinds.{formOf, lengthOf, txKind, rxKind, kindOf, stageOf}
 use Rattle.records.specs.Records.{sizeOf, recordAt, recordsFrom, recordsAt, records}
 use Rattle.records.proofs.RecordLaws.{record-some}
 use Rattle.plan.proofs.TestLaws.{no-fault}
@@ -51,29 +53,40 @@ one-head (r ∷ rs) h =
     both (λ (n : ℕ). n + countOf 1 rs ≤ 1) (eqb (stageOf r) 1) 1 0 (omega (arith, no-head rs (stageOf r) (h .1) k))
     (omega (arith, no-head rs (stageOf r) (h .1) k))
 
-total-is :
+-- a frame is longest with a four-byte ID
+tx-most : (id : Id) → lengthOf (txKind id) ≤ 19
+unfolding lengthOf formOf txKind pick
+tx-most (Standard n) = omega arith
+tx-most (Extended n) = omega arith
+
+rx-most : (id : Id) → lengthOf (rxKind id) ≤ 13
+unfolding lengthOf formOf rxKind pick
+rx-most (Standard n) = omega arith
+rx-most (Extended n) = omega arith
+
+total-most :
     (rs : List Record) (stage : ℕ) → InPlace stage rs
-    → total rs ≡ 2 * countOf 1 rs + 2 * nodesIn rs + 17 * length (txFrames rs) + 11 * countOf 4 rs + 3 * countOf 5 rs + 4 * countOf 6 rs
+    → total rs ≤ 2 * countOf 1 rs + 2 * nodesIn rs + 19 * length (txFrames rs) + 13 * countOf 4 rs + 3 * countOf 5 rs + 4 * countOf 6 rs
 unfolding total formOf lengthOf sizeOf InPlace countOf nodesIn txFrames kindOf stageOf pick
-total-is [] stage h = refl
-total-is (Head order ∷ rs) stage h = omega (arith, total-is rs _ (h .1))
-total-is (Node body ∷ rs) stage h = omega (arith, total-is rs _ (h .1))
-total-is (Tx x ∷ rs) stage h = omega (arith, total-is rs _ (h .1))
-total-is (Rx x ∷ rs) stage h = omega (arith, total-is rs _ (h .1))
-total-is (Signal body ∷ rs) stage h = omega (arith, total-is rs _ (h .1))
-total-is (Destination body ∷ rs) stage h = omega (arith, total-is rs _ (h .1))
-total-is (Broken fault ∷ rs) stage h = absurd (no-fault fault (h .0 .known) (h .0 .whole))
+total-most [] stage h = omega arith
+total-most (Head order ∷ rs) stage h = omega (arith, total-most rs _ (h .1))
+total-most (Node body ∷ rs) stage h = omega (arith, total-most rs _ (h .1))
+total-most (Tx x ∷ rs) stage h = omega (arith, tx-most (x .id), total-most rs _ (h .1))
+total-most (Rx x ∷ rs) stage h = omega (arith, rx-most (x .id), total-most rs _ (h .1))
+total-most (Signal body ∷ rs) stage h = omega (arith, total-most rs _ (h .1))
+total-most (Destination body ∷ rs) stage h = omega (arith, total-most rs _ (h .1))
+total-most (Broken fault ∷ rs) stage h = absurd (no-fault fault (h .0 .known) (h .0 .whole))
 
 pub plan-length :
     (plan : List ℕ) → InPlace 0 (records plan)
     → length plan
-    ≤ 2 + 2 * nodesIn (records plan) + 17 * length (txFrames (records plan)) + 11 * countOf 4 (records plan) + 3 * countOf 5 (records plan)
+    ≤ 2 + 2 * nodesIn (records plan) + 19 * length (txFrames (records plan)) + 13 * countOf 4 (records plan) + 3 * countOf 5 (records plan)
     + 4 * countOf 6 (records plan)
 unfolding records recordsAt
 plan-length plan i =
     omega (
       arith,
       reach (length plan - 0) plan 0 (omega arith),
-      total-is (records plan) 0 i,
+      total-most (records plan) 0 i,
       one-head (records plan) i,
     )

@@ -1,7 +1,7 @@
 -- LIN nodes follow all CAN nodes: the test of each node says so, and the type of each node by its number; so a frame's node is a LIN node exactly
 -- where its number is not below that of the CAN nodes.
 use mathlib.Core.Path.{_≡_, refl, sym, ap, _∙_}
-use mathlib.Core.Bool.{true}
+use mathlib.Core.Bool.{true, false≢true}
 use mathlib.Core.List.{List, [], _∷_}
 use Prim.Native.Nat.{ℕ, zero, suc, _+_, _≤_, _<_}
 use native.Mathlib.Decide.{ℕ-discrete, decLt}
@@ -12,6 +12,8 @@ use borrow.Author.Tests.{ltb-true, ltb-false, eqb-true, eq-eqb, ne-eqb, lt-ltb, 
 use Rattle.base.specs.Pick.{pick}
 use Rattle.base.proofs.Apart.{differ}
 use Rattle.base.proofs.Picks.{cases, both}
+use Rattle.records.specs.declared.record.Id.{Id}
+use Rattle.records.specs.declared.record.Id.the-variants.{Standard, Extended}
 use Rattle.records.specs.declared.record.NodeType.the-variants.{Can, Lin}
 use Rattle.records.specs.declared.record.NodeBody.{NodeBody}
 use Rattle.records.specs.declared.record.Record.{Record}
@@ -23,7 +25,7 @@ use Rattle.plan.specs.Limits.{linIdRange}
 use Rattle.plan.specs.declared.progress.Counts.{Counts}
 use Rattle.plan.specs.declared.progress.Progress.{Progress}
 use Rattle.plan.specs.Progress.{counted, after}
-use Rattle.plan.specs.Tests.{canFirst, inRange, frameFits, fitsNode}
+use Rattle.plan.specs.Tests.{canFirst, inRange, isLinId, frameFits, fitsNode}
 use Rattle.plan.specs.Rows.{nodesIn, cansIn, typesIn}
 use Rattle.plan.proofs.TestLaws.{and-both, tx-ranges, rx-ranges}
 use Rattle.facts.specs.Good.{Each, Along, NodeOf, NoCan, LinLast, LinRanges, OnLin, InLinRange}
@@ -239,18 +241,27 @@ types-by-number rs h n l =
 
 -- ---- the ranges on a LIN node are those of a frame whose node is not below the CAN nodes
 
+lin-id : (id : Id) (size : ℕ) → isLinId id ≡ true → 1 ≤ size → size ≤ 8 → LinRanges id size
+unfolding isLinId
+lin-id (Standard n) size e some most = record { number = n; short = refl; below = ltb-true n linIdRange e; some = some; most = most }
+lin-id (Extended n) size e some most = absurd (false≢true e)
+
+id-lin : (id : Id) (size : ℕ) → LinRanges id size → isLinId id ≡ true
+unfolding isLinId
+id-lin id size k = rw (k .short) (lt-ltb (k .number) linIdRange (k .below))
+
 module _ (rs : List Record) (last : Along LinLast rs) where
-  pub frame-lin : (node id size : ℕ) → size ≤ 8 → frameFits (cansIn rs) node id size ≡ true → OnLin (typesIn rs) node id size
+  pub frame-lin : (node : ℕ) (id : Id) (size : ℕ) → size ≤ 8 → frameFits (cansIn rs) node id size ≡ true → OnLin (typesIn rs) node id size
   unfolding frameFits
   frame-lin node id size small e is = go (decLt node (cansIn rs))
     where
       go : Dec (node < cansIn rs) → LinRanges id size
       go (yes l) = let f = types-are rs last .can node l in absurd (differ cc)
       go (no l) =
-          let k = and-both (ltb id linIdRange) (ltb 0 size) (rw (le-ltb node (cansIn rs) (omega arith)) at e) in
-          record { below = ltb-true id linIdRange (k .0); some = ltb-true 0 size (k .1); most = small }
+          let k = and-both (isLinId id) (ltb 0 size) (rw (le-ltb node (cansIn rs) (omega arith)) at e) in
+          lin-id id size (k .0) (ltb-true 0 size (k .1)) small
 
-  pub lin-frame : (node id size : ℕ) → node < nodesIn rs → OnLin (typesIn rs) node id size → frameFits (cansIn rs) node id size ≡ true
+  pub lin-frame : (node : ℕ) (id : Id) (size : ℕ) → node < nodesIn rs → OnLin (typesIn rs) node id size → frameFits (cansIn rs) node id size ≡ true
   unfolding frameFits
   lin-frame node id size inside on = go (decLt node (cansIn rs))
     where
@@ -258,7 +269,7 @@ module _ (rs : List Record) (last : Along LinLast rs) where
       go (yes l) = rw (lt-ltb node (cansIn rs) l)
       go (no l) =
           let k = on (types-are rs last .lin node (omega arith) inside) in
-          rw (le-ltb node (cansIn rs) (omega arith), lt-ltb id linIdRange (k .below), lt-ltb 0 size (k .some))
+          rw (le-ltb node (cansIn rs) (omega arith), id-lin id size k, lt-ltb 0 size (k .some))
 
   module _ (c : Counts) (all : c .can ≡ cansIn rs) where
     pub fits-lin : (r : Record) → inRange (nodesIn rs) r ≡ true → fitsNode c r ≡ true → InLinRange (typesIn rs) r

@@ -11,7 +11,7 @@ use Rattle.records.specs.declared.record.Record.the-variants.{Head, Node, Tx, R
 use Rattle.plan.specs.declared.progress.Counts.{Counts}
 use Rattle.plan.specs.declared.progress.RowSoFar.{RowSoFar}
 use Rattle.plan.specs.declared.progress.Progress.{Progress}
-use Rattle.plan.specs.Progress.{keyOf, counted, rowAfter, after}
+use Rattle.plan.specs.Progress.{rowKey, counted, rowAfter, after}
 use Rattle.plan.specs.Tests.{rises}
 use Rattle.plan.specs.Rows.{Row, rowOf, rowsFrom}
 use Rattle.facts.specs.Good.{Each, Rising}
@@ -20,7 +20,7 @@ use Rattle.facts.proofs.Lists.{each-map}
 
 -- the rows to come: they rise, and none is below the floor
 pub record RisingOver (floor : ℕ) (rows : List Row) : Type 0 where
-  pub above : Each (λ r. floor ≤ keyOf (r .frame)) rows
+  pub above : Each (λ r. floor ≤ rowKey (r .frame)) rows
   pub rising : Rising rows
 
 -- one record more in front
@@ -29,8 +29,8 @@ rising-back :
     → RisingOver (rowAfter n row r .floor) (rowsFrom (counted c r .rx) rs) → RisingOver (row .floor) (rowsFrom (c .rx) (r ∷ rs))
 unfolding rises rowAfter counted rowsFrom rowOf Each Rising
 rising-back n c row (Rx x) rs e h =
-    let k : RisingOver (keyOf x + 1) (rowsFrom (suc (c .rx)) rs) = rw (add-one (c .rx)) at h in
-    let l = leb-true (row .floor) (keyOf x) e in
+    let k : RisingOver (rowKey x + 1) (rowsFrom (suc (c .rx)) rs) = rw (add-one (c .rx)) at h in
+    let l = leb-true (row .floor) (rowKey x) e in
     record {
       above = (l, each-map (λ r a. omega arith) (rowsFrom (suc (c .rx)) rs) (k .above));
       rising = (each-map (λ r a. omega arith) (rowsFrom (suc (c .rx)) rs) (k .above), k .rising);
@@ -54,9 +54,9 @@ pub rising-next :
     → (rises row r ≡ true) × RisingOver (rowAfter n row r .floor) (rowsFrom (counted c r .rx) rs)
 unfolding rises rowAfter counted rowsFrom rowOf Each Rising
 rising-next n c row (Rx x) rs h =
-    let k : RisingOver (keyOf x + 1) (rowsFrom (suc (c .rx)) rs) =
+    let k : RisingOver (rowKey x + 1) (rowsFrom (suc (c .rx)) rs) =
     record { above = each-map (λ r a. omega arith) (rowsFrom (suc (c .rx)) rs) (h .rising .0); rising = h .rising .1 } in
-    (le-leb (row .floor) (keyOf x) (h .above .0), rw (add-one (c .rx)) k)
+    (le-leb (row .floor) (rowKey x) (h .above .0), rw (add-one (c .rx)) k)
 rising-next n c row (Head order) rs h = (refl, h)
 rising-next n c row (Node body) rs h = (refl, h)
 rising-next n c row (Tx x) rs h = (refl, h)

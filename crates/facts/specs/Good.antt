@@ -6,6 +6,8 @@ use Prim.Native.Nat.{ℕ, suc, _+_, _*_, _≤_, _<_}
 use lib.Dec.{eqb}
 use lib.ListN.{length, getD}
 use Rattle.base.specs.Pick.{pick}
+use Rattle.records.specs.declared.record.Id.{Id}
+use Rattle.records.specs.declared.record.Id.the-variants.{Standard}
 use Rattle.records.specs.declared.record.NodeType.{NodeType}
 use Rattle.records.specs.declared.record.NodeType.the-variants.{Can, Lin}
 use Rattle.records.specs.declared.record.NodeBody.{NodeBody}
@@ -17,7 +19,7 @@ use Rattle.records.specs.Views.{onTx, onRx, inRow, noRecord}
 use Rattle.records.specs.Kinds.{rxStage, signalStage, destinationStage, stageOf}
 use Rattle.records.specs.Records.{records}
 use Rattle.records.specs.Nodes.{typeOf}
-use Rattle.plan.specs.Progress.{keyOf}
+use Rattle.plan.specs.Progress.{rowKey}
 use Rattle.plan.specs.Tests.{isKind, isWhole, mayStand, inRange}
 use Rattle.plan.specs.Rows.{widthOf, Claim, Row, rowsOf, claimsOf, txOf, nodesIn, typesIn}
 
@@ -88,14 +90,17 @@ pub record Counted (plan : List ℕ) : Type 0 where
 abbrev pub InRange : List ℕ → Type 0
 InRange plan = Each (λ r. inRange (nodesIn (records plan)) r ≡ true) (records plan)
 
--- ---- "IDs there run 0 to 59, sizes 1 to 8" (document 02, Ticket 2): there is on a LIN node. The types are those of the nodes, in number order.
+-- ---- "IDs there run 0 to 59, sizes 1 to 8" (document 02, Ticket 2): there is on a LIN node, and no ID there has 29 bits (Ticket 6). The types are those
+-- of the nodes, in number order.
 
-pub record LinRanges (id size : ℕ) : Type 0 where
-  pub below : id < 60
+pub record LinRanges (id : Id) (size : ℕ) : Type 0 where
+  pub number : ℕ
+  pub short : id ≡ Standard number
+  pub below : number < 60
   pub some : 1 ≤ size
   pub most : size ≤ 8
 
-abbrev pub OnLin : List NodeType → ℕ → ℕ → ℕ → Type 0
+abbrev pub OnLin : List NodeType → ℕ → Id → ℕ → Type 0
 OnLin types node id size = getD types node Can ≡ Lin → LinRanges id size
 
 abbrev pub InLinRange : List NodeType → Record → Type 0
@@ -106,7 +111,7 @@ InLinRange types r =
 
 unfoldable pub Rising : List Row → Type 0
 Rising [] = Unit {0}
-Rising (r ∷ rs) = Each (λ s. keyOf (r .frame) < keyOf (s .frame)) rs × Rising rs
+Rising (r ∷ rs) = Each (λ s. rowKey (r .frame) < rowKey (s .frame)) rs × Rising rs
 
 -- ---- 7: "a signal .. passes its frame's data": here none does. `room` is how many bits the data of the Rx frame that is being read has.
 

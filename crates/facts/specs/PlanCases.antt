@@ -1,4 +1,5 @@
--- Small plans with the verdict of each: every refusal number, document 01's cases 10, 11 and 12, the plan of its listing, and plans with LIN nodes.
+-- Small plans with the verdict of each: every refusal number, document 01's cases 10, 11 and 12, the plan of its listing, plans with LIN nodes, and plans
+-- with 29-bit IDs.
 use mathlib.Core.Path.{_≡_}
 use mathlib.Core.List.{List, [], _∷_, _++_}
 use Prim.Native.Nat.{ℕ}
@@ -45,6 +46,14 @@ sixteen = node ++ node ++ node ++ node ++ node ++ node ++ node ++ node ++ node +
 abbrev pub linTx : ℕ → ℕ → List ℕ
 linTx id size = 0x03 ∷ 0x01 ∷ 0x00 ∷ id ∷ size ∷ 0x01 ∷ 0x03 ∷ 0x03 ∷ 0x00 ∷ 0x00 ∷ 0x00 ∷ 0x00 ∷ 0x00 ∷ 0x00 ∷ 0x00 ∷ 0x00 ∷ 0x00 ∷ []
 
+-- frames with a four-byte ID (document 02, Ticket 6): the node and the ID's bytes. The Tx frame has two bytes and is sent on reception, the Rx frame one byte
+abbrev pub longTx : ℕ → ℕ → ℕ → ℕ → ℕ → List ℕ
+longTx on a b c d =
+    0x07 ∷ on ∷ a ∷ b ∷ c ∷ d ∷ 0x02 ∷ 0x01 ∷ 0x00 ∷ 0x00 ∷ 0x01 ∷ 0x00 ∷ 0x00 ∷ 0x00 ∷ 0x00 ∷ 0x00 ∷ 0x00 ∷ 0x00 ∷ 0x00 ∷ []
+
+abbrev pub longRx : ℕ → ℕ → ℕ → ℕ → ℕ → List ℕ
+longRx on a b c d = 0x08 ∷ on ∷ a ∷ b ∷ c ∷ d ∷ 0x01 ∷ 0x01 ∷ 0x02 ∷ 0x02 ∷ 0x00 ∷ 0x00 ∷ 0x02 ∷ []
+
 -- a head, a node, a Tx frame of two bytes, and an Rx frame of one byte with no failure bit, or with one at a position
 abbrev pub plain : List ℕ
 plain = head ++ node ++ tx 2 ++ rx 0 0x00 0x20 1 0 0
@@ -58,6 +67,12 @@ listing =
     0x01 ∷ 0x00 ∷ 0x02 ∷ 0x00 ∷ 0x03 ∷ 0x00 ∷ 0x01 ∷ 0x00 ∷ 0x02 ∷ 0x01 ∷ 0x03 ∷ 0x03 ∷ 0x02
     ∷ 0x00 ∷ 0x00 ∷ 0x00 ∷ 0x00 ∷ 0x00 ∷ 0x00 ∷ 0x00 ∷ 0x00
     ∷ 0x04 ∷ 0x00 ∷ 0x00 ∷ 0x20 ∷ 0x01 ∷ 0x01 ∷ 0x02 ∷ 0x02 ∷ 0x01 ∷ 0x0F ∷ 0x02 ∷ 0x05 ∷ 0x02 ∷ 0x04 ∷ 0x06 ∷ 0x00 ∷ 0x00 ∷ 0x06 ∷ []
+
+-- ID 20 hex in both formats on one node (document 02, Ticket 6), the one copied to the first byte of a Tx frame with a 29-bit ID, the other to its second
+abbrev pub bridge : List ℕ
+bridge =
+    head ++ node ++ longTx 0 0x09 0xF8 0x01 0x00 ++ rx 0 0x00 0x20 1 0 0 ++ signal 0 8 ++ destination 0 0 ++ longRx 0 0x00 0x00 0x00 0x20 ++ signal 0 8
+    ++ destination 0 8
 
 -- "The pumps on LIN" (document 02, Ticket 2): node 0 is a CAN node, node 1 a LIN node
 abbrev pub pumps : List ℕ
@@ -78,8 +93,8 @@ planCases =
     -- 1: the input is empty (case 12), or the record runs past its end
     record { plan = []; verdict = Refused Short 0 }
     ∷ record { plan = head ++ 0x02 ∷ []; verdict = Refused Short 1 }
-    -- 2: the kind is not 1 to 6
-    ∷ record { plan = head ++ 0x07 ∷ []; verdict = Refused Kind 1 }
+    -- 2: the kind is not 1 to 8
+    ∷ record { plan = head ++ 0x09 ∷ []; verdict = Refused Kind 1 }
     -- 3: the kind may not stand here
     ∷ record { plan = node; verdict = Refused Place 0 }
     ∷ record { plan = head ++ head; verdict = Refused Place 1 }
@@ -137,6 +152,27 @@ planCases =
     ∷ record { plan = head ++ lin ++ lin; verdict = Good 2 0 0 }
     ∷ record { plan = head ++ node ++ lin ++ tx 0 ++ linTx 0 1; verdict = Good 2 2 0 }
     ∷ record { plan = head ++ node ++ lin ++ tx 8 ++ rx 0 0x00 60 8 0 0 ++ rx 1 0x00 59 8 1 63 ++ signal 0 8 ++ destination 0 0; verdict = Good 2 1 2 }
+    -- document 02, Ticket 6. 2: "2 begins past the new kinds"; 1: both, cut; 3: a Tx frame after an Rx frame
+    ∷ record { plan = head ++ node ++ 0x09 ∷ []; verdict = Refused Kind 2 }
+    ∷ record { plan = head ++ node ++ 0x07 ∷ 0x00 ∷ []; verdict = Refused Short 2 }
+    ∷ record { plan = head ++ node ++ 0x08 ∷ 0x00 ∷ []; verdict = Refused Short 2 }
+    ∷ record { plan = head ++ node ++ rx 0 0x00 0x20 1 0 0 ++ longTx 0 0 0 0 0; verdict = Refused Place 3 }
+    -- 5: IDs "0 to 536,870,911"; a node that there is not; "5 for these on a LIN node"
+    ∷ record { plan = head ++ node ++ longTx 0 0x1F 0xFF 0xFF 0xFF ++ longRx 0 0x1F 0xFF 0xFF 0xFF; verdict = Good 1 1 1 }
+    ∷ record { plan = head ++ node ++ longTx 0 0x20 0x00 0x00 0x00; verdict = Refused Range 2 }
+    ∷ record { plan = head ++ node ++ longRx 0 0x20 0x00 0x00 0x00; verdict = Refused Range 2 }
+    ∷ record { plan = head ++ node ++ longRx 0 0xFF 0xFF 0xFF 0xFF; verdict = Refused Range 2 }
+    ∷ record { plan = head ++ node ++ longRx 1 0 0 0 0; verdict = Refused Range 2 }
+    ∷ record { plan = head ++ lin ++ longTx 0 0 0 0 1; verdict = Refused Range 2 }
+    ∷ record { plan = head ++ lin ++ longRx 0 0 0 0 1; verdict = Refused Range 2 }
+    -- 6: "11-bit rows come before 29-bit ones, each in ascending order"
+    ∷ record { plan = head ++ node ++ longRx 0 0 0 0 0x1F ++ rx 0 0x00 0x20 1 0 0; verdict = Refused Order 3 }
+    ∷ record { plan = head ++ node ++ longRx 0 0 0 0 0x20 ++ longRx 0 0 0 0 0x20; verdict = Refused Order 3 }
+    ∷ record { plan = head ++ node ++ longRx 0 0 1 0 0 ++ longRx 0 0 0 0xFF 0xFF; verdict = Refused Order 3 }
+    ∷ record { plan = head ++ node ++ longRx 0 0x1F 0xFF 0xFF 0xFE ++ longRx 0 0x1F 0xFF 0xFF 0xFF; verdict = Good 1 0 2 }
+    ∷ record { plan = head ++ node ++ rx 0 0x07 0xFF 1 0 0 ++ longRx 0 0 0 0 0; verdict = Good 1 0 2 }
+    ∷ record { plan = head ++ node ++ node ++ longRx 0 0x1F 0xFF 0xFF 0xFF ++ rx 1 0x00 0x00 1 0 0; verdict = Good 2 0 2 }
+    ∷ record { plan = bridge; verdict = Good 1 1 2 }
     ∷ []
 
 abbrev pub VerdictsHold : List PlanCase → Type 0

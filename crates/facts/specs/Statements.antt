@@ -85,7 +85,7 @@ pub record Bounds (plan : List ℕ) (n t r : ℕ) : Type 0 where
   pub nodes : n ≤ 16
   pub tx : t ≤ 256
   pub rx : r ≤ 256
-  pub short : length plan ≤ 18466
+  pub short : length plan ≤ 19490
   pub claims : Each Small (claimsOf plan)
 
 abbrev pub GoodBounds : Type 0

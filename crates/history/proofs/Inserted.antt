@@ -6,7 +6,10 @@ use Prim.Native.Nat.{ℕ, zero, suc, _-_, _≤_, _<_}
 use native.Mathlib.Omega.{arith}
 use native.Mathlib.Decide.{ℕ-discrete, decLt}
 use lib.ListN.{length, getD}
+use Rattle.records.specs.declared.record.Id.{Id}
+use Rattle.records.specs.Ids.{Before}
 use Rattle.plan.specs.Rows.{Row, noRow}
+use Rattle.model.proofs.Ids.{dec-before, before-not, before-else}
 use Rattle.history.specs.Strangers.{Above, Rise, inserted}
 
 -- ---- the rows of the longer list
@@ -59,15 +62,15 @@ cut P dec (suc k) down = go (dec k) (cut P dec k (λ q r l h. down q r l (omega 
 
 -- ---- a row that none of them is
 
-abbrev pub Below : Row → ℕ → ℕ → Type 0
-Below y n i = (y .frame .node < n) ⊎ ((y .frame .node ≡ n) × (y .frame .id < i))
+abbrev pub Below : Row → ℕ → Id → Type 0
+Below y n i = (y .frame .node < n) ⊎ ((y .frame .node ≡ n) × Before (y .frame .id) i)
 
-module _ (n i : ℕ) (rows : List Row) (rise : Rise rows) (behind : ℕ) (most : behind ≤ length rows)
+module _ (n : ℕ) (i : Id) (rows : List Row) (rise : Rise rows) (behind : ℕ) (most : behind ≤ length rows)
     (below : (r : ℕ) → r < length rows → (r < behind) ↔ Below (getD rows r noRow) n i)
     (unlisted : (r : ℕ) → r < length rows → getD rows r noRow .frame .node ≡ n → getD rows r noRow .frame .id ≡ i → ⊥)
     (x : Row) (node : x .frame .node ≡ n) (id : x .frame .id ≡ i) where
   under : (r : ℕ) → r < length rows → r < behind → Above (getD rows r noRow) x
-  under r h l = ⊎-elim (λ (m : getD rows r noRow .frame .node < n). inl (omega arith)) (λ (e, m). inr (omega arith, omega arith)) (below r h .0 l)
+  under r h l = ⊎-elim (λ (m : getD rows r noRow .frame .node < n). inl (omega arith)) (λ (e, m). inr (omega arith, rw id m)) (below r h .0 l)
 
   over : (r : ℕ) → r < length rows → behind ≤ r → Above x (getD rows r noRow)
   over r h l = go (decLt n (getD rows r noRow .frame .node)) (ℕ-discrete (getD rows r noRow .frame .node) n)
@@ -78,11 +81,11 @@ module _ (n i : ℕ) (rows : List Row) (rise : Rise rows) (behind : ℕ) (most :
       go : Dec (n < getD rows r noRow .frame .node) → Dec (getD rows r noRow .frame .node ≡ n) → Above x (getD rows r noRow)
       go (yes m) w = inl (omega arith)
       go (no m) (no d) = absurd (never (inl (omega arith)))
-      go (no m) (yes e) = inr (omega arith, id-above (decLt (getD rows r noRow .frame .id) i))
+      go (no m) (yes e) = inr (omega arith, id-above (dec-before (getD rows r noRow .frame .id) i))
         where
-          id-above : Dec (getD rows r noRow .frame .id < i) → x .frame .id < getD rows r noRow .frame .id
+          id-above : Dec (Before (getD rows r noRow .frame .id) i) → Before (x .frame .id) (getD rows r noRow .frame .id)
           id-above (yes l) = absurd (never (inr (e, l)))
-          id-above (no l) = let other = unlisted r h e in omega (arith, other)
+          id-above (no l) = rw id (before-else _ i l (unlisted r h e))
 
   -- behind those below it the rows rise with it
   rises : Rise (inserted behind x rows)
@@ -115,11 +118,13 @@ module _ (n i : ℕ) (rows : List Row) (rise : Rise rows) (behind : ℕ) (most :
       go (yes l) w =
           let up = s k (suc k) (omega arith) (omega (arith, many k x rows)) in
           let high : Above x (getD rows k noRow) = rw (there k x rows h, after k x rows k (omega arith) (omega arith)) at up in
-          absurd (⊎-elim (λ a. ⊎-elim (λ b. omega arith) (λ b. omega arith) high) (λ a. ⊎-elim (λ b. omega arith) (λ b. omega arith) high) (below k (omega arith) .0 l))
+          absurd
+          (⊎-elim (λ a. ⊎-elim (λ b. omega arith) (λ b. omega arith) high)
+          (λ a. ⊎-elim (λ b. omega arith) (λ b. before-not _ _ (a .1) (rw id at (b .1))) high) (below k (omega arith) .0 l))
       go (no d) (yes l) =
           let up = s behind k l (omega (arith, many k x rows)) in
           let low : Above (getD rows behind noRow) x = rw (before k x rows h behind l, there k x rows h) at up in
-          let m = below behind (omega arith) .1 (⊎-elim (λ a. inl (omega arith)) (λ a. inr (omega arith, omega arith)) low) in
+          let m = below behind (omega arith) .1 (⊎-elim (λ a. inl (omega arith)) (λ a. inr (omega arith, rw id at (a .1))) low) in
           absurd (omega arith)
       go (no d) (no e) = omega arith
 

@@ -21,5 +21,6 @@ pub mod LongTimeouts
 pub mod LongSilences
 pub mod Inserted
 pub mod Strangers
+pub mod Formats
 pub mod Only
 pub mod Demand3

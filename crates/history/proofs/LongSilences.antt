@@ -5,6 +5,7 @@ use lib.Dec.{eqb}
 use Rattle.base.specs.Pick.{pick}
 use Rattle.base.proofs.Apart.{differ}
 use Rattle.base.proofs.Picks.{by-eqb}
+use Rattle.records.specs.declared.record.Id.the-variants.{Standard}
 use Rattle.answers.specs.declared.Silence.the-variants.{Short, Long}
 use Rattle.polling.specs.Polling.{silentAnswer}
 use Rattle.tables.specs.Reads.{rowAt}
@@ -35,6 +36,6 @@ long-silences a calls plan is n id r x named e unrefused =
     (λ y c. y ≡ x → TellsSilence (rowAt plan r .frame .long) (inARow r 0 (pastOf calls a .log)) x)
     (λ why f. absurd (unrefused why (sym f)))
     (λ q at f.
-    let same : q ≡ r = sym (number-named plan (k .good) n id q at) ∙ number-named plan (k .good) n id r named in
+    let same : q ≡ r = sym (number-named plan (k .good) n (Standard id) q at) ∙ number-named plan (k .good) n (Standard id) r named in
     rw (← f, same) (silence-tells _ _ _ (k .holds r (named .exists))))
     says

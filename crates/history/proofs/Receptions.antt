@@ -8,6 +8,8 @@ use lib.Dec.{eqb}
 use lib.ListN.{length}
 use Rattle.base.specs.Numbers.{byteAt}
 use Rattle.base.proofs.Picks.{both}
+use Rattle.records.specs.declared.record.Id.{Id}
+use Rattle.records.specs.declared.record.Id.the-variants.{Standard}
 use Rattle.plan.specs.Rows.{rowsOf}
 use Rattle.facts.specs.Good.{GoodPlan}
 use Rattle.answers.specs.declared.Received.{Received}
@@ -44,47 +46,47 @@ module _ {plan : List ℕ} (good : GoodPlan plan) {P : ℕ → Type 0} {now : Li
 
   -- ---- the calls
 
-  module _ (n id : ℕ) where
-    abbrev number : ℕ
-    number = numberFor n id (rowsOf plan)
-
+  module _ (n : ℕ) where
     pub reception-turns :
-        (payload : List ℕ)
+        (id : Id) (payload : List ℕ)
         → now (receivedArea a n id payload)
         ≡ replay turn (toldReception (receivedAnswer a n id payload) (numberFor n id (rowsOf plan)) payload) (now a)
     unfolding toldReception replay
-    reception-turns payload =
-        by-reception plan good a reads n id payload (λ x c. now c ≡ replay turn (toldReception x number payload) (now a)) other
+    reception-turns id payload =
+        by-reception plan good a reads n id payload (λ x c. now c ≡ replay turn (toldReception x (numberFor n id (rowsOf plan)) payload) (now a)) other
         (λ r x. rw (number-named plan good n id r x) (accepted-turns r payload (x .exists)))
       where
-        other : (x : Received) → (x ≡ Accepted → ⊥) → now a ≡ replay turn (toldReception x number payload) (now a)
+        other : (x : Received) → (x ≡ Accepted → ⊥) → now a ≡ replay turn (toldReception x (numberFor n id (rowsOf plan)) payload) (now a)
         other Accepted d = absurd (d refl)
         other (NoRow place) d = refl
         other TooShort d = refl
         other (Refused why) d = refl
 
+    abbrev number : ℕ → ℕ
+    number id = numberFor n (Standard id) (rowsOf plan)
+
     pub response-turns :
-        (payload : List ℕ) (sum : ℕ)
+        (id : ℕ) (payload : List ℕ) (sum : ℕ)
         → now (respondedArea a n id payload sum)
-        ≡ replay turn (toldResponse (respondedAnswer a n id payload sum) (numberFor n id (rowsOf plan)) payload) (now a)
+        ≡ replay turn (toldResponse (respondedAnswer a n id payload sum) (number id) payload) (now a)
     unfolding toldResponse replay
-    response-turns payload sum =
-        by-response plan good a reads n id payload sum (λ x c. now c ≡ replay turn (toldResponse x number payload) (now a)) other
-        (λ r x. rw (number-named plan good n id r x) (responded-turns r payload (x .exists)))
+    response-turns id payload sum =
+        by-response plan good a reads n id payload sum (λ x c. now c ≡ replay turn (toldResponse x (number id) payload) (now a)) other
+        (λ r x. rw (number-named plan good n (Standard id) r x) (responded-turns r payload (x .exists)))
       where
-        other : (x : Responded) → (x ≡ responded.Accepted → ⊥) → now a ≡ replay turn (toldResponse x number payload) (now a)
+        other : (x : Responded) → (x ≡ responded.Accepted → ⊥) → now a ≡ replay turn (toldResponse x (number id) payload) (now a)
         other responded.Accepted d = absurd (d refl)
         other responded.TooShort d = refl
         other responded.WrongSum d = refl
         other (responded.Refused why) d = refl
 
     -- long or short, it is an expiry
-    pub silence-turns : now (silentArea a n id) ≡ replay turn (toldSilence (silentAnswer a n id) (numberFor n id (rowsOf plan))) (now a)
+    pub silence-turns : (id : ℕ) → now (silentArea a n id) ≡ replay turn (toldSilence (silentAnswer a n id) (number id)) (now a)
     unfolding toldSilence replay
-    silence-turns =
-        by-silence plan good a reads n id (λ x c. now c ≡ replay turn (toldSilence x number) (now a)) (λ why. refl)
+    silence-turns id =
+        by-silence plan good a reads n id (λ x c. now c ≡ replay turn (toldSilence x (number id)) (now a)) (λ why. refl)
         (λ r x.
         let turns = u .expires a reads r (x .exists) in
-        rw (number-named plan good n id r x)
+        rw (number-named plan good n (Standard id) r x)
         (both (λ (y : Silence). now (expiredArea a r) ≡ replay turn (toldSilence y r) (now a)) (eqb (byteAt a (long r)) 1) silence.Long silence.Short
         turns turns))

@@ -9,6 +9,7 @@ use Rattle.base.specs.Pick.{pick}
 use Rattle.base.specs.Numbers.{byteAt}
 use Rattle.base.proofs.Apart.{differ}
 use Rattle.base.proofs.Picks.{cases}
+use Rattle.records.specs.declared.record.Id.the-variants.{Standard}
 use Rattle.records.specs.declared.record.RxNumber.{RxNumber}
 use Rattle.records.specs.Nodes.{isLin}
 use Rattle.area.specs.Layout.{long, marked, nodeCount, typeOn, rxFrame}
@@ -28,14 +29,14 @@ use Rattle.history.proofs.Pairs.{pairs}
 
 module _ (a : List ℕ) (n id : ℕ) where
   -- what is asked for there is a row that the lookup has found
-  polled-found : (r : RxNumber) → polled a n id ≡ At r → lookedUp a n id ≡ At r
+  polled-found : (r : RxNumber) → polled a n id ≡ At r → lookedUp a n (Standard id) ≡ At r
   unfolding polled
-  polled-found r = cases (λ x. x ≡ At r → lookedUp a n id ≡ At r) (isLin (typeOn a n)) _ _ (λ t e. e) (λ t e. absurd (differ cc))
+  polled-found r = cases (λ x. x ≡ At r → lookedUp a n (Standard id) ≡ At r) (isLin (typeOn a n)) _ _ (λ t e. e) (λ t e. absurd (differ cc))
 
   -- what holds of every answer but an acceptance with the area as it was, and of an acceptance with what it does, holds of a response
   pub by-responded :
       (payload : List ℕ) (sum : ℕ) (P : Responded → List ℕ → Type 0) → ((x : Responded) → (x ≡ Accepted → ⊥) → P x a)
-      → (n < nodeCount a → (r : RxNumber) → lookedUp a n id ≡ At r → P Accepted (acceptedArea a (r .0 % 256) payload))
+      → (n < nodeCount a → (r : RxNumber) → lookedUp a n (Standard id) ≡ At r → P Accepted (acceptedArea a (r .0 % 256) payload))
       → P (respondedAnswer a n id payload sum) (respondedArea a n id payload sum)
   unfolding respondedAnswer respondedArea
   by-responded payload sum P other taken =
@@ -57,7 +58,7 @@ module _ (a : List ℕ) (n id : ℕ) where
   -- the same of "no response": what holds of a refusal with the area as it was, and of an expiry
   pub by-silent :
       (P : Silence → List ℕ → Type 0) → ((why : Refusal) → P (silence.Refused why) a)
-      → (n < nodeCount a → (r : RxNumber) → lookedUp a n id ≡ At r
+      → (n < nodeCount a → (r : RxNumber) → lookedUp a n (Standard id) ≡ At r
       → P (pick (eqb (byteAt a (long (r .0 % 256))) 1) silence.Long silence.Short) (expiredArea a (r .0 % 256)))
       → P (silentAnswer a n id) (silentArea a n id)
   unfolding silentAnswer silentArea

@@ -1,5 +1,5 @@
 -- A plan's rows: the claims of each are among the plan's and have its number, and a node and an ID name one of them, which a lookup finds.
-use mathlib.Core.Path.{_≡_, refl, sym, ap, subst}
+use mathlib.Core.Path.{_≡_, refl, sym, ap, subst, _∙_}
 use mathlib.Core.List.{List, [], _∷_}
 use mathlib.Core.Option.{Option, none, some}
 use Prim.Native.Nat.{ℕ, zero, suc, _<_}
@@ -8,13 +8,16 @@ use lib.ListN.{length, getD}
 use borrow.Author.Tests.{eq-eqb}
 use Rattle.base.specs.Pick.{pick}
 use Rattle.base.specs.Numbers.{byteAt}
-use Rattle.base.proofs.Picks.{by-eqb}
+use Rattle.base.proofs.Picks.{cases, by-eqb}
 use Rattle.base.proofs.Ranges.{at-most-le}
+use Rattle.records.specs.declared.record.Id.{Id}
+use Rattle.records.specs.Ids.{sameId, keyOf}
+use Rattle.records.proofs.IdLaws.{same-is, same-itself}
 use Rattle.records.specs.declared.record.RxNumber.{RxNumber}
 use Rattle.records.specs.declared.record.Record.{Record}
 use Rattle.records.specs.Records.{records}
 use Rattle.records.proofs.Variants.{by-rx, by-row}
-use Rattle.plan.specs.Progress.{keyOf}
+use Rattle.plan.specs.Progress.{rowKey}
 use Rattle.plan.specs.Rows.{Claim, Row, withFailure, claimsFrom, awaited, rowOf, rowsFrom, rowsOf, noRow}
 use Rattle.facts.specs.Good.{Each, Rising, GoodPlan}
 use Rattle.facts.proofs.Lists.{each-at}
@@ -63,23 +66,24 @@ rows-numbered plan = numbered-from 0 (records plan)
 -- ---- the row of a node and an ID: the keys rise, so that no row before it has them
 
 first-named :
-    (n id : ℕ) (rs : List Row) → Rising rs → (d : Row) (r : ℕ) → r < length rs → getD rs r d .frame .node ≡ n → getD rs r d .frame .id ≡ id
+    (n : ℕ) (id : Id) (rs : List Row) → Rising rs → (d : Row) (r : ℕ) → r < length rs → getD rs r d .frame .node ≡ n → getD rs r d .frame .id ≡ id
     → numberFor n id rs ≡ r
-unfolding numberFor Rising keyOf pick
+unfolding numberFor Rising rowKey pick
 first-named n id [] h d r l e i = absurd (omega arith)
-first-named n id (x ∷ rs) h d zero l e i = rw (eq-eqb _ _ e, eq-eqb _ _ i)
+first-named n id (x ∷ rs) h d zero l e i = rw (eq-eqb _ _ e, i, same-itself id)
 first-named n id (x ∷ rs) h d (suc r) l e i =
     let later : suc (numberFor n id rs) ≡ suc r = ap suc (first-named n id rs (h .1) d r (omega arith) e i) in
-    let above = each-at (λ s. keyOf (x .frame) < keyOf (s .frame)) rs d r (omega arith) (h .0) in
+    let above = each-at (λ s. rowKey (x .frame) < rowKey (s .frame)) rs d r (omega arith) (h .0) in
     by-eqb (λ (m : ℕ). m ≡ suc r) (x .frame .node) n _ _
-    (λ u. by-eqb (λ (m : ℕ). m ≡ suc r) (x .frame .id) id _ _ (λ v. absurd (omega arith)) (λ v. later))
+    (λ u. cases (λ (m : ℕ). m ≡ suc r) (sameId (x .frame .id) id) _ _
+    (λ v. let same : keyOf (x .frame .id) ≡ keyOf (getD rs r d .frame .id) = ap keyOf (same-is _ _ v ∙ sym i) in absurd (omega arith)) (λ v. later))
     (λ u. later)
 
-pub number-named : (plan : List ℕ) → GoodPlan plan → (n id r : ℕ) → Names plan n id r → numberFor n id (rowsOf plan) ≡ r
+pub number-named : (plan : List ℕ) → GoodPlan plan → (n : ℕ) (id : Id) (r : ℕ) → Names plan n id r → numberFor n id (rowsOf plan) ≡ r
 number-named plan good n id r h = first-named n id (rowsOf plan) (good .rising) noRow r (h .exists) (h .node) (h .id)
 
 pub row-named :
-    (plan : List ℕ) → GoodPlan plan → (a : List ℕ) → Reads plan a → (n id : ℕ) → n < nodeCount a → (r : RxNumber) → lookedUp a n id ≡ At r
+    (plan : List ℕ) → GoodPlan plan → (a : List ℕ) → Reads plan a → (n : ℕ) (id : Id) → n < nodeCount a → (r : RxNumber) → lookedUp a n id ≡ At r
     → Names plan n id (r .0)
 row-named plan good a reads n id known r e =
     lookup-finds plan a _ _ _ (facts-good plan good) reads n id (omega (arith, known, at-most-le 16 (byteAt a nodeCountByte))) .found r e

@@ -6,11 +6,11 @@ use Prim.Native.Nat.{ℕ, _+_, _<_, _≤_}
 use native.Mathlib.Omega.{arith}
 use Rattle.base.specs.Numbers.{lowAt}
 use Rattle.base.proofs.Ranges.{at-most-le}
-use Rattle.area.specs.Layout.{counterByte, txCountBytes, rxCountBytes, queuesStart, txReloadsStart, txTimersStart, longStart, fullStart, entriesStart}
+use Rattle.area.specs.Layout.{requestsStart, counterByte, txCountBytes, rxCountBytes, queuesStart, txReloadsStart, txTimersStart, longStart, fullStart, entriesStart}
 use Rattle.area.specs.Layout.{txMasksStart, node, queue, txReload, rxReload, long, full, key, txMask, rxMask, firstRow, rowCount}
 use Rattle.area.proofs.Frame.{Same, same-two, same-fewer}
 use Rattle.area.proofs.Kept.{Planned, Kept, in-header, in-tables, marked-kept, order-kept, nodeCount-kept, typeOn-kept, txCount-kept, rxCount-kept}
-use Rattle.area.proofs.Kept.{start-kept, room-kept, planOf-kept, txFrame-kept, rxFrame-kept, claims-kept}
+use Rattle.area.proofs.Kept.{start-kept, room-kept, planOf-kept, homeNode-kept, txFrame-kept, rxFrame-kept, claims-kept}
 use Rattle.tables.specs.Reads.{Header, TxTable, RxTable, NodeTable, Rings, Reads}
 use Rattle.history.proofs.Aside.{Aside}
 
@@ -91,6 +91,7 @@ module _ {a b : List ℕ} (s : Same Steady a b) where
     tx-table t h x =
         record {
           frame = txFrame-kept kept-steady t h ∙ x .frame;
+          home = homeNode-kept kept-steady t (omega arith) ∙ x .home;
           reload = s .at (txReload t) (reload-steady _ (omega arith) (omega arith)) ∙ x .reload;
           mask = s .at (txMask t) (mask-steady _ (omega arith)) ∙ x .mask;
           full = table-two (full t) (omega arith) (omega arith) ∙ x .full;
@@ -100,6 +101,7 @@ module _ {a b : List ℕ} (s : Same Steady a b) where
     rx-table r h x =
         record {
           frame = rxFrame-kept kept-steady r h ∙ x .frame;
+          home = homeNode-kept kept-steady (requestsStart + r) (omega arith) ∙ x .home;
           claims = claims-kept kept-steady r h ∙ x .claims;
           key = rw (table-two (key r + 2) (omega arith) (omega arith), table-two (key r) (omega arith) (omega arith)) (x .key);
           reload = s .at (rxReload r) (reload-steady _ (omega arith) (omega arith)) ∙ x .reload;

@@ -9,6 +9,8 @@ use lib.ListN.{length}
 use Rattle.base.proofs.Apart.{differ}
 use Rattle.base.specs.Numbers.{byteAt}
 use Rattle.base.proofs.Ranges.{at-most-le}
+use Rattle.records.specs.declared.record.Id.{Id}
+use Rattle.records.specs.Ids.{Before}
 use Rattle.plan.specs.Rows.{rowsOf}
 use Rattle.facts.specs.Good.{GoodPlan}
 use Rattle.facts.proofs.FactsGood.{facts-good}
@@ -22,6 +24,7 @@ use Rattle.tables.proofs.Lookup.{lookup-finds}
 use Rattle.tables.proofs.RowFacts.{nodes-rise, ids-rise}
 use Rattle.model.specs.Plan.{said}
 use Rattle.model.specs.Words.{Names, Smaller}
+use Rattle.model.proofs.Ids.{dec-before, before-then}
 use Rattle.model.proofs.Words.{dec-either, dec-both}
 use Rattle.model.proofs.Smaller.{run, run-many, those-run}
 use Rattle.history.specs.Calls.{answerIn, afterIn}
@@ -31,7 +34,7 @@ use Rattle.history.proofs.Inserted.{cut, Below, rises-there}
 
 -- the rows of a node with a smaller ID stand one after the other, as many as the place says
 pub smaller-run :
-    (plan : List ℕ) (n i place : ℕ) (x : Places plan n i place) (r : ℕ) → Smaller (said plan) n i r ↔ ((x .first ≤ r) × (r < x .first + place))
+    (plan : List ℕ) (n : ℕ) (i : Id) (place : ℕ) (x : Places plan n i place) (r : ℕ) → Smaller (said plan) n i r ↔ ((x .first ≤ r) × (r < x .first + place))
 smaller-run plan n i place x r = (
   (λ y. x .exactly r .0 (record { exists = y .exists; node = y .node; id = y .id })),
   (λ b. let y = x .exactly r .1 b in record { exists = y .exists; node = y .node; id = y .id }),
@@ -44,19 +47,19 @@ module _ (plan : List ℕ) (good : GoodPlan plan) where
     where
       go : Dec (rowAt plan q .frame .node ≡ rowAt plan r .frame .node)
           → (rowAt plan q .frame .node < rowAt plan r .frame .node)
-          ⊎ ((rowAt plan q .frame .node ≡ rowAt plan r .frame .node) × (rowAt plan q .frame .id < rowAt plan r .frame .id))
+          ⊎ ((rowAt plan q .frame .node ≡ rowAt plan r .frame .node) × Before (rowAt plan q .frame .id) (rowAt plan r .frame .id))
       go (yes e) = inr (e, ids-rise plan good q r l h e)
       go (no d) = inl (omega (arith, nodes-rise plan good q r l h))
 
-  module _ (n i : ℕ) where
+  module _ (n : ℕ) (i : Id) where
     dec-below : (r : ℕ) → Dec (Below (rowAt plan r) n i)
-    dec-below r = dec-either (decLt _ n) (dec-both (ℕ-discrete _ n) (decLt _ i))
+    dec-below r = dec-either (decLt _ n) (dec-both (ℕ-discrete _ n) (dec-before _ i))
 
     down : (q r : ℕ) → q < r → r < length (rowsOf plan) → Below (rowAt plan r) n i → Below (rowAt plan q) n i
     down q r l h b =
         ⊎-elim
         (λ u. ⊎-elim (λ v. inl (omega arith)) (λ v. inl (omega arith)) b)
-        (λ u. ⊎-elim (λ v. inl (omega arith)) (λ v. inr (omega arith, omega arith)) b)
+        (λ u. ⊎-elim (λ v. inl (omega arith)) (λ v. inr (omega arith, before-then _ _ i (u .1) (v .1))) b)
         (rise q r l h)
 
     belongs : (place : ℕ) → ((r : ℕ) → Names (said plan) n i r → ⊥) → Places plan n i place → Belongs plan n i place

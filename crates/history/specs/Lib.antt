@@ -4,3 +4,4 @@ pub mod Fresh
 pub mod Statements
 pub mod LongTimeouts
 pub mod Strangers
+pub mod Formats

@@ -8,6 +8,7 @@ use Prim.Native.Nat.{ℕ, suc, _*_, _≤_, _<_}
 use lib.Dec.{eqb}
 use lib.ListN.{length, getD}
 use Rattle.base.specs.Pick.{pick}
+use Rattle.records.specs.declared.record.Id.the-variants.{Standard}
 use Rattle.plan.specs.Rows.{rowsOf}
 use Rattle.area.specs.Claims.{RxEvent, accepted, expired}
 use Rattle.answers.specs.declared.Refusal.{Refusal}
@@ -54,6 +55,6 @@ pub record TellsSilence (long n : ℕ) (x : Silence) : Type 0 where
 
 abbrev pub LongSilences : Type 0
 LongSilences =
-    (a : List ℕ) (calls : List Step) (plan : List ℕ) → pastOf calls a .plan ≡ some plan → (n id r : ℕ) (x : Silence) → Names plan n id r
+    (a : List ℕ) (calls : List Step) (plan : List ℕ) → pastOf calls a .plan ≡ some plan → (n id r : ℕ) (x : Silence) → Names plan n (Standard id) r
     → answerIn (afterIn a calls) (noResponse n id) ≡ silent x → ((why : Refusal) → x ≢ Refused why)
     → TellsSilence (rowAt plan r .frame .long) (inARow r 0 (pastOf calls a .log)) x

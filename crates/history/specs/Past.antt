@@ -7,6 +7,9 @@ use mathlib.Core.Option.{Option, none, some}
 use lib.Dec.{eqb}
 use lib.ListN.{length, take}
 use Rattle.base.specs.Pick.{pick}
+use Rattle.records.specs.declared.record.Id.{Id}
+use Rattle.records.specs.declared.record.Id.the-variants.{Standard}
+use Rattle.records.specs.Ids.{sameId}
 use Rattle.plan.specs.Rows.{Row, rowsOf}
 use Rattle.area.specs.Claims.{RxEvent, accepted, expired}
 use Rattle.answers.specs.declared.Opened.{Opened}
@@ -36,9 +39,9 @@ unopened = record { plan = none; log = [] }
 -- ---- what an answer tells
 
 -- the number of the plan's Rx frame of node n with this ID; where there is none, their count
-unfoldable pub numberFor : ℕ → ℕ → List Row → ℕ
+unfoldable pub numberFor : ℕ → Id → List Row → ℕ
 numberFor n id [] = 0
-numberFor n id (r ∷ rs) = pick (eqb (r .frame .node) n) (pick (eqb (r .frame .id) id) 0 (suc (numberFor n id rs))) (suc (numberFor n id rs))
+numberFor n id (r ∷ rs) = pick (eqb (r .frame .node) n) (pick (sameId (r .frame .id) id) 0 (suc (numberFor n id rs))) (suc (numberFor n id rs))
 
 unfoldable pub toldReception : Received → ℕ → List ℕ → List RxEvent
 toldReception Accepted r payload = accepted r payload ∷ []
@@ -79,8 +82,8 @@ told none c a = []
 told (some plan) (opening p) a = []
 told (some plan) (call (reception n id payload)) a = toldReception (receivedAnswer a n id payload) (numberFor n id (rowsOf plan)) payload
 told (some plan) (call (response n id payload sum)) a =
-    toldResponse (respondedAnswer a n id payload sum) (numberFor n id (rowsOf plan)) payload
-told (some plan) (call (noResponse n id)) a = toldSilence (silentAnswer a n id) (numberFor n id (rowsOf plan))
+    toldResponse (respondedAnswer a n id payload sum) (numberFor n (Standard id) (rowsOf plan)) payload
+told (some plan) (call (noResponse n id)) a = toldSilence (silentAnswer a n id) (numberFor n (Standard id) (rowsOf plan))
 told (some plan) (call (tick report)) a = toldTick (tickAnswer a report) (length (rowsOf plan)) (tickedReport (tickAnswer a report) a report)
 told (some plan) (call (taking n)) a = []
 told (some plan) (call (fullness t)) a = []

@@ -6,6 +6,8 @@ use mathlib.Core.List.{List}
 use mathlib.Core.Option.{some}
 use Prim.Native.Nat.{ℕ, _<_}
 use lib.ListN.{length}
+use Rattle.records.specs.declared.record.Id.{Id}
+use Rattle.records.specs.declared.record.Id.the-variants.{Standard}
 use Rattle.bits.specs.Payload.{bitAt}
 use Rattle.records.specs.Records.{records}
 use Rattle.plan.specs.Rows.{txOf, orderIn}
@@ -46,11 +48,11 @@ IsIndicator (indicator r) = Unit {0}
 
 -- of an area that some calls left, with the plan last opened there
 pub record OnlyTheirs (plan a : List ℕ) (t b : ℕ) : Type 0 where
-  pub reception : (n id : ℕ) (payload : List ℕ) → ((r : ℕ) → Names plan n id r → OwnedBy r (owner plan t b) → ⊥)
+  pub reception : (n : ℕ) (id : Id) (payload : List ℕ) → ((r : ℕ) → Names plan n id r → OwnedBy r (owner plan t b) → ⊥)
       → keptBit plan (stepped a (call (reception n id payload))) t b ≡ keptBit plan a t b
-  pub response : (n id : ℕ) (payload : List ℕ) (sum : ℕ) → ((r : ℕ) → Names plan n id r → OwnedBy r (owner plan t b) → ⊥)
+  pub response : (n id : ℕ) (payload : List ℕ) (sum : ℕ) → ((r : ℕ) → Names plan n (Standard id) r → OwnedBy r (owner plan t b) → ⊥)
       → keptBit plan (stepped a (call (response n id payload sum))) t b ≡ keptBit plan a t b
-  pub noResponse : (n id : ℕ) → ((r : ℕ) → Names plan n id r → owner plan t b ≢ indicator r)
+  pub noResponse : (n id : ℕ) → ((r : ℕ) → Names plan n (Standard id) r → owner plan t b ≢ indicator r)
       → keptBit plan (stepped a (call (noResponse n id))) t b ≡ keptBit plan a t b
   pub tick : (report : List ℕ) → (IsIndicator (owner plan t b) → ⊥) → keptBit plan (stepped a (call (tick report))) t b ≡ keptBit plan a t b
   pub take : (n : ℕ) → keptBit plan (stepped a (call (take n))) t b ≡ keptBit plan a t b

@@ -6,6 +6,8 @@ use mathlib.Core.List.{List, [], _∷_}
 use mathlib.Core.Option.{some}
 use Prim.Native.Nat.{ℕ, zero, suc, _≤_, _<_}
 use lib.ListN.{length, getD}
+use Rattle.records.specs.declared.record.Id.{Id}
+use Rattle.records.specs.Ids.{Before}
 use Rattle.plan.specs.Rows.{Row, noRow, rowsOf}
 use Rattle.answers.specs.declared.Received.the-variants.{NoRow}
 use Rattle.tables.specs.Reads.{rowAt}
@@ -17,7 +19,7 @@ use Rattle.history.specs.Past.{pastOf}
 
 -- (node, ID) of row y is above that of row x
 abbrev pub Above : Row → Row → Type 0
-Above x y = (x .frame .node < y .frame .node) ⊎ ((x .frame .node ≡ y .frame .node) × (x .frame .id < y .frame .id))
+Above x y = (x .frame .node < y .frame .node) ⊎ ((x .frame .node ≡ y .frame .node) × Before (x .frame .id) (y .frame .id))
 
 -- the rows rise: each is above every one before it, or the plan is refused by 6
 abbrev pub Rise : List Row → Type 0
@@ -30,7 +32,7 @@ inserted (suc k) x [] = x ∷ []
 inserted (suc k) x (y ∷ rows) = y ∷ inserted k x rows
 
 -- where a row of node n with this ID belongs in a plan that has none
-pub record Belongs (plan : List ℕ) (n id place : ℕ) : Type 0 where
+pub record Belongs (plan : List ℕ) (n : ℕ) (id : Id) (place : ℕ) : Type 0 where
   pub unlisted : (r : ℕ) → Names (said plan) n id r → ⊥
   -- so many of the plan's Rx frames of that node have a smaller ID
   pub rows : List ℕ
@@ -47,5 +49,5 @@ pub record Belongs (plan : List ℕ) (n id place : ℕ) : Type 0 where
 -- of every reception that answers 1, after any openings and calls on any area
 abbrev pub StrangersBelong : Type 0
 StrangersBelong =
-    (a : List ℕ) (calls : List Step) (plan : List ℕ) → pastOf calls a .plan ≡ some plan → (n id place : ℕ) (payload : List ℕ)
+    (a : List ℕ) (calls : List Step) (plan : List ℕ) → pastOf calls a .plan ≡ some plan → (n : ℕ) (id : Id) (place : ℕ) (payload : List ℕ)
     → answerIn (afterIn a calls) (reception n id payload) ≡ received (NoRow place) → Belongs plan n id place

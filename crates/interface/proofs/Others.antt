@@ -8,6 +8,7 @@ use Rattle.base.specs.Pick.{pick}
 use Rattle.base.specs.Numbers.{lowAt}
 use Rattle.base.proofs.Picks.{both}
 use Rattle.base.proofs.Ranges.{at-most-le}
+use Rattle.records.specs.declared.record.Id.{Id}
 use Rattle.area.specs.Layout.{full}
 use Rattle.answers.specs.declared.Refusal.{Refusal}
 use Rattle.answers.specs.declared.Refusal.the-variants.{NotOpen, NoNode, LongPayload, NoFrame, WrongCall}
@@ -53,7 +54,7 @@ place-back : (place : ℕ) → place < 65536 → ReceivedBack (received.NoRow pl
 unfolding receivedOf receivedStruct receivedNumber pick
 place-back place l = let e : place % 65536 ≡ place = omega arith in rw e
 
-found-back : (a : List ℕ) (n id : ℕ) (payload : List ℕ) → ReceivedBack (foundAnswer a (lookedUp a n id) payload)
+found-back : (a : List ℕ) (n : ℕ) (id : Id) (payload : List ℕ) → ReceivedBack (foundAnswer a (lookedUp a n id) payload)
 found-back a n id payload = go (lookedUp a n id) refl
   where
     go : (f : Found) → lookedUp a n id ≡ f → ReceivedBack (foundAnswer a f payload)
@@ -61,7 +62,7 @@ found-back a n id payload = go (lookedUp a n id) refl
     go (Nothing place) e = unfold foundAnswer in place-back place (omega (arith, place-small a n id place e))
 
 pub received-back :
-    (a : List ℕ) (n id : ℕ) (payload : List ℕ) → receivedOf (receivedStruct (receivedAnswer a n id payload)) ≡ receivedAnswer a n id payload
+    (a : List ℕ) (n : ℕ) (id : Id) (payload : List ℕ) → receivedOf (receivedStruct (receivedAnswer a n id payload)) ≡ receivedAnswer a n id payload
 unfolding receivedAnswer refusalNumber
 received-back a n id payload =
     both ReceivedBack _ _ _

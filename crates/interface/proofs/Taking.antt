@@ -8,11 +8,13 @@ use Rattle.base.specs.Pick.{pick}
 use Rattle.base.proofs.Picks.{both}
 use Rattle.bits.proofs.PayloadLaws.{Bytes}
 use Rattle.lin.proofs.Identifiers.{parity-bits}
+use Rattle.records.specs.declared.record.Id.{Id}
 use Rattle.records.specs.declared.record.Entry.{Entry}
 use Rattle.records.specs.declared.record.Entry.the-variants as entry
+use Rattle.records.specs.Ids.{plainId}
 use Rattle.records.specs.Kinds.{txAt, rxAt}
 use Rattle.records.specs.Nodes.{isLin}
-use Rattle.area.specs.Layout.{waiterRange, queue, txRecordPlace, rxRecordPlace, txFrame, rxFrame, typeOn}
+use Rattle.area.specs.Layout.{requestsStart, waiterRange, queue, txFieldsPlace, rxFieldsPlace, txFrame, rxFrame, typeOn}
 use Rattle.area.specs.Queue.{endsOf, entryOf, oldest}
 use Rattle.area.proofs.NarrowLaws.{bytes-stored}
 use Rattle.answers.specs.declared.Refusal.{Refusal}
@@ -26,10 +28,11 @@ use Rattle.answers.specs.declared.Taken.the-variants.{Nothing, Frame, Request, 
 use Rattle.answers.specs.Answers.{refusalNumber}
 use Rattle.taking.specs.Taken.{framingOf, entryAnswer, oldestAnswer, takenAnswer}
 use Rattle.taking.proofs.Entries.{frame-small, request-small}
-use Rattle.interface.specs.Structs.{nothingTaken, protectedIn, checksumIn, takenStruct}
+use Rattle.interface.specs.Structs.{idIn, wordOf, nothingTaken, protectedIn, checksumIn, takenStruct}
 use Rattle.interface.specs.Back as back
 use Rattle.interface.specs.Back.{takenOf}
 use Rattle.interface.proofs.Numbers.{numbered}
+use Rattle.interface.proofs.Words.{Fits, word-back, id-fits}
 
 abbrev Back : Taken → Type 0
 Back x = takenOf (takenStruct x) ≡ x
@@ -49,7 +52,7 @@ unfoldable Told : Framing → Type 0
 Told Can = Unit {0}
 Told (Lin protected checksum) = 0 < protected
 
-frame-back : (x : TakenFrame) → x .tx .0 < 256 → x .id < 65536 → x .size < 16 → x .waiting < 65536 → Told (x .framing) → Back (Frame x)
+frame-back : (x : TakenFrame) → x .tx .0 < 256 → Fits (x .id) → x .size < 16 → x .waiting < 65536 → Told (x .framing) → Back (Frame x)
 unfolding takenOf takenStruct back.framingOf protectedIn checksumIn pick Told
 frame-back x ht hi hs hw told = go (x .framing) refl told
   where
@@ -59,8 +62,8 @@ frame-back x ht hi hs hw told = go (x .framing) refl told
     es : x .size % 256 ≡ x .size
     es = omega arith
 
-    ei : x .id % 4294967296 ≡ x .id
-    ei = omega arith
+    ei : idIn (wordOf (x .id)) ≡ x .id
+    ei = word-back (x .id) hi
 
     ew : x .waiting % 65536 ≡ x .waiting
     ew = omega arith
@@ -69,38 +72,31 @@ frame-back x ht hi hs hw told = go (x .framing) refl told
     go Can e t = rw (et, es, ei, ew, e)
     go (Lin protected checksum) e t = rw (et, es, ei, ew, e, ne-eqb protected 0 (omega arith))
 
-request-back : (x : TakenRequest) → x .rx .0 < 256 → x .id < 65536 → x .size < 256 → x .waiting < 65536 → Back (Request x)
+request-back : (x : TakenRequest) → x .rx .0 < 256 → Fits (x .id) → x .size < 256 → x .waiting < 65536 → Back (Request x)
 unfolding takenOf takenStruct pick
 request-back x hr hi hs hw =
     let er : x .rx .0 % 65536 ≡ x .rx .0 = omega arith in
     let es : x .size % 256 ≡ x .size = omega arith in
-    let ei : x .id % 4294967296 ≡ x .id = omega arith in
     let ew : x .waiting % 65536 ≡ x .waiting = omega arith in
-    rw (er, es, ei, ew)
+    rw (er, es, word-back (x .id) hi, ew)
 
 -- what goes with a frame has a protected identifier above 0
-framing-told : (a : List ℕ) (n id : ℕ) (bytes : List ℕ) → Told (framingOf a n id bytes)
+framing-told : (a : List ℕ) (n : ℕ) (id : Id) (bytes : List ℕ) → Told (framingOf a n id bytes)
 unfolding framingOf Told
-framing-told a n id bytes = both Told (isLin (typeOn a n)) _ _ (parity-bits .above id) tt
+framing-told a n id bytes = both Told (isLin (typeOn a n)) _ _ (parity-bits .above (plainId id)) tt
 
 oldest-small : (a : List ℕ) (n : ℕ) → oldest a n < waiterRange
 unfolding oldest
 oldest-small a n = omega arith
 
--- an ID and a waiting count are two bytes of the area each, a size is one
-tx-id-small : (a : List ℕ) (t : ℕ) → Bytes a → txFrame a t .id < 65536
+-- a size is one byte of the area, a waiting count is two
+tx-id-fits : (a : List ℕ) (t : ℕ) → Bytes a → Fits (txFrame a t .id)
 unfolding txFrame txAt
-tx-id-small a t b =
-    let s = bytes-stored a b in
-    let at = txRecordPlace a t + 2 in
-    omega (arith, s at, s (at + 1))
+tx-id-fits a t = id-fits a t (txFieldsPlace a t)
 
-rx-small : (a : List ℕ) (r : ℕ) → Bytes a → (rxFrame a r .id < 65536) × (rxFrame a r .size < 256)
+rx-small : (a : List ℕ) (r : ℕ) → Bytes a → Fits (rxFrame a r .id) × (rxFrame a r .size < 256)
 unfolding rxFrame rxAt
-rx-small a r b =
-    let s = bytes-stored a b in
-    let at = rxRecordPlace a r in
-    (omega (arith, s (at + 2), s (at + 2 + 1)), s (at + 4))
+rx-small a r b = let at = rxFieldsPlace a r in (id-fits a (requestsStart + r) at b, bytes-stored a b at)
 
 waiting-small : (a : List ℕ) (n : ℕ) → Bytes a → endsOf a n .waiting < 65536
 unfolding endsOf
@@ -111,7 +107,7 @@ entry-back a n waiting b l = go (entryOf (oldest a n)) refl
   where
     go : (x : Entry) → entryOf (oldest a n) ≡ x → Back (entryAnswer a n x waiting)
     go (entry.Frame t) e = unfold entryAnswer in
-        frame-back _ (frame-small (oldest a n) t e) (tx-id-small a (t .0) b) (omega arith) l (framing-told a n _ _)
+        frame-back _ (frame-small (oldest a n) t e) (tx-id-fits a (t .0) b) (omega arith) l (framing-told a n _ _)
     go (entry.Request r) e = unfold entryAnswer in
         request-back _ (request-small (oldest a n) r (oldest-small a n) e) (rx-small a (r .0) b .0) (rx-small a (r .0) b .1) l
 

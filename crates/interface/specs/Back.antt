@@ -24,6 +24,7 @@ use Rattle.answers.specs.declared.Taken.{Taken}
 use Rattle.answers.specs.declared.Taken.the-variants as taken
 use Rattle.answers.specs.declared.Fullness.{Fullness}
 use Rattle.answers.specs.declared.Fullness.the-variants as fullness
+use Rattle.interface.specs.Structs.{idIn}
 use Rattle.interface.specs.declared.structs.GatewayOpened.{GatewayOpened}
 use Rattle.interface.specs.declared.structs.GatewayReceived.{GatewayReceived}
 use Rattle.interface.specs.declared.structs.GatewayTaken.{GatewayTaken}
@@ -69,9 +70,9 @@ framingOf s = pick (eqb (s .«protected_id») 0) Can (Lin (s .«protected_id») 
 unfoldable pub takenOf : GatewayTaken → Taken
 takenOf s =
     pick (eqb (s .kind) 1)
-    (taken.Frame (record { tx = record { 0 = s .tx }; id = s .id; size = s .size; waiting = s .waiting; framing = framingOf s }))
+    (taken.Frame (record { tx = record { 0 = s .tx }; id = idIn (s .id); size = s .size; waiting = s .waiting; framing = framingOf s }))
     (pick (eqb (s .kind) 2)
-    (taken.Request (record { rx = record { 0 = s .rx }; id = s .id; size = s .size; waiting = s .waiting; protected = s .«protected_id» }))
+    (taken.Request (record { rx = record { 0 = s .rx }; id = idIn (s .id); size = s .size; waiting = s .waiting; protected = s .«protected_id» }))
     (pick (eqb (s .number) 0) taken.Nothing (taken.Refused (refusalOf (s .number)))))
 
 unfoldable pub fullnessOf : GatewayFullness → Fullness

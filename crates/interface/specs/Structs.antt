@@ -1,8 +1,12 @@
 -- Each answer as a struct of numbers, which C can take. `number` is document 01's number of the answer or the refusal; it is 0 where there is neither.
 -- A field that says nothing is 0.
-use Prim.Native.Nat.{ℕ, _%_}
+use Prim.Native.Nat.{ℕ, _+_, _-_, _%_}
+use lib.Dec.{ltb}
 use Rattle.base.specs.Pick.{pick}
 use Rattle.base.specs.Numbers.{atMost}
+use Rattle.records.specs.declared.record.Id.{Id}
+use Rattle.records.specs.declared.record.Id.the-variants.{Standard, Extended}
+use Rattle.records.specs.Ids.{formatBit}
 use Rattle.area.specs.Layout.{longEnough, payload, inWidth}
 use Rattle.answers.specs.declared.Opened.{Opened}
 use Rattle.answers.specs.declared.Opened.the-variants as opened
@@ -40,6 +44,15 @@ unfoldable pub tickedNumber : Ticked → ℕ
 tickedNumber ticked.Done = 0
 tickedNumber (ticked.Refused why) = refusalNumber why
 
+-- an ID as SocketCAN has it, in C: bit 31 set means a 29-bit ID. Such a number stands for an ID,
+unfoldable pub idIn : ℕ → Id
+idIn word = pick (ltb word formatBit) (Standard word) (Extended (word - formatBit))
+
+-- and an ID for such a number
+unfoldable pub wordOf : Id → ℕ
+wordOf (Standard n) = n % formatBit
+wordOf (Extended n) = formatBit + n % formatBit
+
 -- kind 1 is a frame, 2 a request; 0 says that there is neither: nothing waits, or the take was refused
 unfoldable pub nothingTaken : ℕ → GatewayTaken
 nothingTaken number =
@@ -63,7 +76,7 @@ takenStruct (taken.Frame x) =
       size = x .size % 256;
       tx = x .tx .0 % 65536;
       rx = 0;
-      id = x .id % 4294967296;
+      id = wordOf (x .id);
       waiting = x .waiting % 65536;
       «protected_id» = protectedIn (x .framing);
       checksum = checksumIn (x .framing);
@@ -75,7 +88,7 @@ takenStruct (taken.Request x) =
       size = x .size % 256;
       tx = 0;
       rx = x .rx .0 % 65536;
-      id = x .id % 4294967296;
+      id = wordOf (x .id);
       waiting = x .waiting % 65536;
       «protected_id» = x .protected;
       checksum = 0;

@@ -7,6 +7,7 @@ use crate::structs::GatewayPayload;
 use crate::structs::GatewayReceived;
 use crate::structs::GatewayTaken;
 use crate::structs::fullness_struct;
+use crate::structs::id_in;
 use crate::structs::opened_struct;
 use crate::structs::payload_struct;
 use crate::structs::received_struct;
@@ -31,7 +32,7 @@ ghost use Rattle.reception.specs.Reception.{receivedAnswer, receivedArea};
 ghost use Rattle.polling.specs.Polling.{respondedAnswer, respondedArea, silentAnswer, silentArea};
 ghost use Rattle.ticking.specs.Tick.{tickAnswer, tickedArea, tickedReport};
 ghost use Rattle.taking.specs.Taken.{takenAnswer, takenArea, takenPayload, fullnessAnswer};
-ghost use Rattle.interface.specs.Structs.{openedStruct, receivedStruct, tickedNumber, takenStruct, payloadStruct, fullnessStruct};
+ghost use Rattle.interface.specs.Structs.{openedStruct, receivedStruct, tickedNumber, idIn, takenStruct, payloadStruct, fullnessStruct};
 ghost use Rattle.interface.specs.Back.{takenOf};
 
 // Checks the plan, and fills the area.
@@ -44,7 +45,7 @@ pub extern "C" fn gateway_open(plan: &[u8], area: &mut [u8]) -> GatewayOpened
     opened_struct(open(plan, area))
 }
 
-// A frame that a CAN node received.
+// A frame that a CAN node received. The ID is as in SocketCAN: bit 31 set means a 29-bit ID.
 #[no_mangle]
 pub extern "C" fn gateway_receive(
     area: &mut [u8],
@@ -52,10 +53,10 @@ pub extern "C" fn gateway_receive(
     id: u32,
     payload: &[u8],
 ) -> GatewayReceived
-    ensures answer { λ r. ⌜ r ≡ receivedStruct (receivedAnswer (now (area .entry)) node id (now (payload .entry))) ⌝ }
-    ensures bytes { λ r. ⌜ now (area .exit) ≡ receivedArea (now (area .entry)) node id (now (payload .entry)) ⌝ }
+    ensures answer { λ r. ⌜ r ≡ receivedStruct (receivedAnswer (now (area .entry)) node (idIn id) (now (payload .entry))) ⌝ }
+    ensures bytes { λ r. ⌜ now (area .exit) ≡ receivedArea (now (area .entry)) node (idIn id) (now (payload .entry)) ⌝ }
 {
-    received_struct(receive(area, node, id, payload))
+    received_struct(receive(area, node, id_in(id), payload))
 }
 
 // A response to a request on a LIN node, with its checksum.

@@ -12,12 +12,13 @@ use area::layout;
 use area::layout::AREA_LENGTH;
 use area::layout::in_width;
 use base::at_most;
+use records::record::Id;
 use records::record::TxNumber;
 ghost use mathlib.Core.Path.{_≡_};
 ghost use Prim.Native.Nat.{_%_};
 ghost use Rattle.answers.specs.Answers.{refusalNumber, respondedNumber, silenceNumber};
 ghost use Rattle.interface.specs.Structs.{openedStruct, receivedStruct, tickedNumber, payloadStruct, fullnessStruct};
-ghost use Rattle.interface.specs.Structs.{protectedIn, checksumIn, nothingTaken, takenStruct};
+ghost use Rattle.interface.specs.Structs.{idIn, wordOf, protectedIn, checksumIn, nothingTaken, takenStruct};
 ghost use Rattle.interface.specs.Back.{takenOf};
 
 #[repr(C)]
@@ -190,6 +191,31 @@ fn checksum_in(framing: Framing) -> u8
     }
 }
 
+// The bit of a SocketCAN identifier that says that the ID has 29 bits.
+const FORMAT_BIT: usize = 2147483648;
+
+// The ID that such a number stands for.
+pub fn id_in(word: u32) -> Id
+    ensures { λ r. ⌜ r ≡ idIn word ⌝ }
+{
+    // the same number in both branches: the compiler sees that the key is the word
+    let number = word as usize % FORMAT_BIT;
+    if (word as usize) < FORMAT_BIT {
+        return Id::Standard(number);
+    }
+    Id::Extended(number)
+}
+
+// An ID as such a number.
+fn word_of(id: Id) -> u32
+    ensures { λ r. ⌜ r ≡ wordOf id ⌝ }
+{
+    match id {
+        Id::Standard(n) => (n % FORMAT_BIT) as u32,
+        Id::Extended(n) => (FORMAT_BIT + n % FORMAT_BIT) as u32,
+    }
+}
+
 pub fn taken_struct(answer: Taken) -> GatewayTaken
     ensures { λ r. ⌜ r ≡ takenStruct answer ⌝ }
 {
@@ -197,29 +223,33 @@ pub fn taken_struct(answer: Taken) -> GatewayTaken
         Taken::Nothing => nothing_taken(0),
         Taken::Frame(frame) => {
             let framing = frame.framing;
+            let id = frame.id;
             GatewayTaken {
                 number: 0,
                 kind: 1,
                 size: (frame.size % 256) as u8,
                 tx: low(frame.tx.0),
                 rx: 0,
-                id: (frame.id % 4294967296) as u32,
+                id: word_of(id),
                 waiting: low(frame.waiting),
                 protected_id: protected_in(framing),
                 checksum: checksum_in(framing),
             }
         }
-        Taken::Request(request) => GatewayTaken {
-            number: 0,
-            kind: 2,
-            size: (request.size % 256) as u8,
-            tx: 0,
-            rx: low(request.rx.0),
-            id: (request.id % 4294967296) as u32,
-            waiting: low(request.waiting),
-            protected_id: request.protected,
-            checksum: 0,
-        },
+        Taken::Request(request) => {
+            let id = request.id;
+            GatewayTaken {
+                number: 0,
+                kind: 2,
+                size: (request.size % 256) as u8,
+                tx: 0,
+                rx: low(request.rx.0),
+                id: word_of(id),
+                waiting: low(request.waiting),
+                protected_id: request.protected,
+                checksum: 0,
+            }
+        }
         Taken::Refused(why) => nothing_taken(refusal_number(why)),
     }
 }

@@ -3,6 +3,8 @@ use Prim.Native.Nat.{ℕ}
 use mathlib.Core.List.{List, [], _∷_, _++_}
 use lib.Dec.{eqb}
 use Rattle.base.specs.Pick.{pick}
+use Rattle.records.specs.declared.record.Id.{Id}
+use Rattle.records.specs.declared.record.Id.the-variants.{Standard, Extended}
 use Rattle.answers.specs.declared.Refusal.{Refusal}
 use Rattle.answers.specs.declared.Opened.{Opened}
 use Rattle.answers.specs.declared.Opened.the-variants as opened
@@ -19,7 +21,7 @@ use Rattle.answers.specs.declared.TakenRequest.{TakenRequest}
 use Rattle.answers.specs.declared.Taken.{Taken}
 use Rattle.answers.specs.declared.Taken.the-variants as taken
 use Rattle.answers.specs.Answers.{refusalNumber, receivedNumber, respondedNumber, silenceNumber}
-use Rattle.text.specs.Text.{ascii, each, hex, spaced}
+use Rattle.text.specs.Text.{ascii, decimal, each, hex, spaced}
 
 -- a word alone; a word and numbers; "A refused event prints its word, `refused` and the number."
 unfoldable pub wordLine : List ℕ → List ℕ
@@ -65,15 +67,20 @@ tickLine (ticked.Refused why) report = refusedLine (ascii "tick") why
 unfoldable pub payloadText : ℕ → List ℕ → List ℕ
 payloadText size payload = pick (eqb size 0) (ascii "-") (hex payload)
 
+-- a space and an ID: "the bench puts `e` before such an ID" (document 02, Ticket 6), which has 29 bits
+unfoldable pub spacedId : Id → List ℕ
+spacedId (Standard n) = spaced n
+spacedId (Extended n) = ascii " e" ++ decimal n
+
 -- "`take none` or `take TX ID SIZE PAYLOAD WAITING`"; "`take request RX ID SIZE WAITING`" (document 02, Ticket 2). The protected identifier and the
 -- checksum are part of the answer and not of the line.
 unfoldable pub frameLine : TakenFrame → List ℕ → List ℕ
 frameLine f payload =
-    ascii "take" ++ each spaced (f .tx .0 ∷ f .id ∷ f .size ∷ []) ++ ascii " " ++ payloadText (f .size) payload ++ spaced (f .waiting)
+    ascii "take" ++ spaced (f .tx .0) ++ spacedId (f .id) ++ spaced (f .size) ++ ascii " " ++ payloadText (f .size) payload ++ spaced (f .waiting)
     ++ ascii "\n"
 
-abbrev pub requestLine : TakenRequest → List ℕ
-requestLine q = numbersLine (ascii "take request") (q .rx .0 ∷ q .id ∷ q .size ∷ q .waiting ∷ [])
+unfoldable pub requestLine : TakenRequest → List ℕ
+requestLine q = ascii "take request" ++ spaced (q .rx .0) ++ spacedId (q .id) ++ each spaced (q .size ∷ q .waiting ∷ []) ++ ascii "\n"
 
 unfoldable pub takeLine : Taken → List ℕ → List ℕ
 takeLine taken.Nothing payload = wordLine (ascii "take none")

@@ -5,14 +5,16 @@ use answers::Responded;
 use answers::Silence;
 use answers::Taken;
 use answers::TakenFrame;
+use answers::TakenRequest;
 use answers::Ticked;
 use answers::refusal_number;
+use records::record::Id;
 ghost use mathlib.Core.List.{[], _∷_};
 ghost use Prim.Native.Nat.{_+_, _*_, _≤_};
 ghost use lib.ListN.{length};
 ghost use Rattle.text.specs.Text.{Put, LineIs};
 ghost use Rattle.lines.specs.Lines.{wordLine, numbersLine, planLine, rxLine, responseLine, silenceLine, tickLine};
-ghost use Rattle.lines.specs.Lines.{payloadText, frameLine, takeLine, badLine};
+ghost use Rattle.lines.specs.Lines.{payloadText, spacedId, frameLine, requestLine, takeLine, badLine};
 
 // A word alone.
 fn line_of_word(word: &[u8], line: &mut [u8]) -> usize
@@ -23,7 +25,7 @@ fn line_of_word(word: &[u8], line: &mut [u8]) -> usize
     text::put_byte(line, end, b'\n')
 }
 
-// A word and one, two, three, four numbers.
+// A word and one, two, three numbers.
 fn line_of_one(word: &[u8], n: usize, line: &mut [u8]) -> usize
     requires { ⌜ (2048 ≤ length (now line)) × (length (now word) ≤ 100) ⌝ }
     ensures { λ r. ⌜ LineIs (numbersLine (now (word .entry)) (n ∷ [])) (now (line .entry)) (now (line .exit)) r ⌝ }
@@ -52,16 +54,6 @@ fn line_of_three(word: &[u8], n: usize, m: usize, k: usize, line: &mut [u8]) -> 
     text::put_byte(line, end, b'\n')
 }
 
-fn line_of_four(word: &[u8], n: usize, m: usize, k: usize, l: usize, line: &mut [u8]) -> usize
-    requires { ⌜ (2048 ≤ length (now line)) × (length (now word) ≤ 100) ⌝ }
-    ensures { λ r. ⌜ LineIs (numbersLine (now (word .entry)) (n ∷ m ∷ k ∷ l ∷ [])) (now (line .entry)) (now (line .exit)) r ⌝ }
-{
-    let named = text::put_word(line, 0, word);
-    let first = text::put_number(line, named, n);
-    let end = text::put_three(line, first, m, k, l);
-    text::put_byte(line, end, b'\n')
-}
-
 // A word and bytes in decimal.
 fn line_of_bytes(word: &[u8], bytes: &[u8], line: &mut [u8]) -> usize
     requires { ⌜ (2048 ≤ length (now line)) × (length (now word) ≤ 100) × (length (now bytes) ≤ 256) ⌝ }
@@ -84,16 +76,48 @@ fn put_payload(line: &mut [u8], at: usize, size: usize, payload: &[u8]) -> usize
     text::put_hex(line, at, payload)
 }
 
+// A space and an ID, with `e` before one of 29 bits.
+fn put_id(line: &mut [u8], at: usize, id: Id) -> usize
+    requires { ⌜ at + 22 ≤ length (now line) ⌝ }
+    ensures { λ r. ⌜ Put (now (line .entry)) at (spacedId id) (now (line .exit)) r ⌝ }
+    ensures { λ r. ⌜ r ≤ at + 22 ⌝ }
+{
+    match id {
+        Id::Standard(n) => text::put_number(line, at, n),
+        Id::Extended(n) => {
+            let marked = text::put_word(line, at, b" e");
+            text::put_decimal(line, marked, n)
+        }
+    }
+}
+
 // A frame that is taken.
 fn line_of_frame(frame: TakenFrame, payload: &[u8], line: &mut [u8]) -> usize
     requires { ⌜ (2048 ≤ length (now line)) × (length (now payload) ≤ 256) ⌝ }
     ensures { λ r. ⌜ LineIs (frameLine frame (now (payload .entry))) (now (line .entry)) (now (line .exit)) r ⌝ }
 {
     let named = text::put_word(line, 0, b"take");
-    let sized = text::put_three(line, named, frame.tx.0, frame.id, frame.size);
+    let numbered = text::put_number(line, named, frame.tx.0);
+    let id = frame.id;
+    let identified = put_id(line, numbered, id);
+    let sized = text::put_number(line, identified, frame.size);
     let spaced = text::put_byte(line, sized, b' ');
     let shown = put_payload(line, spaced, frame.size, payload);
     let end = text::put_number(line, shown, frame.waiting);
+    text::put_byte(line, end, b'\n')
+}
+
+// A request that is taken.
+fn line_of_request(request: TakenRequest, line: &mut [u8]) -> usize
+    requires { ⌜ 2048 ≤ length (now line) ⌝ }
+    ensures { λ r. ⌜ LineIs (requestLine request) (now (line .entry)) (now (line .exit)) r ⌝ }
+{
+    let named = text::put_word(line, 0, b"take request");
+    let numbered = text::put_number(line, named, request.rx.0);
+    let id = request.id;
+    let identified = put_id(line, numbered, id);
+    let sized = text::put_number(line, identified, request.size);
+    let end = text::put_number(line, sized, request.waiting);
     text::put_byte(line, end, b'\n')
 }
 
@@ -169,14 +193,7 @@ pub fn take_line(answer: Taken, payload: &[u8], line: &mut [u8]) -> usize
     match answer {
         Taken::Nothing => line_of_word(b"take none", line),
         Taken::Frame(frame) => line_of_frame(frame, payload, line),
-        Taken::Request(request) => line_of_four(
-            b"take request",
-            request.rx.0,
-            request.id,
-            request.size,
-            request.waiting,
-            line,
-        ),
+        Taken::Request(request) => line_of_request(request, line),
         Taken::Refused(why) => line_of_one(b"take refused", refusal_number(why), line),
     }
 }

@@ -14,9 +14,9 @@ use Rattle.events.specs.Events.{planOf, eventLength, wholeEvent, eventAt, event
 use Rattle.model.specs.Rules.{OfBytes}
 use Rattle.listing.specs.Asked.{Asked, askedBy, askedIn}
 
--- an ID is two bytes
+-- the ID of a LIN node's event is two bytes
 unfoldable pub TwoBytes : Event → Type 0
-TwoBytes (Reception node id size) = id < 65536
+TwoBytes (Reception node id size) = Unit {0}
 TwoBytes Tick = Unit {0}
 TwoBytes (Take node) = Unit {0}
 TwoBytes (Response node id size sum) = id < 65536
@@ -31,11 +31,12 @@ event-id input at b =
     let two : twoAt input (at + 2) < 65536 = omega (arith, b (at + 2), b (at + 2 + 1)) in
     both TwoBytes (leb (length input) at) _ _ tt
     (both TwoBytes (ltb (length input - at) (eventLength kind)) _ _ tt
-    (both TwoBytes (eqb kind 16) _ _ two
+    (both TwoBytes (eqb kind 16) _ _ tt
     (both TwoBytes (eqb kind 17) _ _ tt
     (both TwoBytes (eqb kind 18) _ _ tt
+    (both TwoBytes (eqb kind 19) _ _ tt
     (both TwoBytes (eqb kind 20) _ _ two
-    (both TwoBytes (eqb kind 21) _ _ two tt))))))
+    (both TwoBytes (eqb kind 21) _ _ two tt)))))))
 
 -- no opening is among the events
 calls-by : (e : Event) (input : List ℕ) (at rx : ℕ) (rest : Asked) → Each OfBytes (rest .steps) → Each OfBytes (askedBy e input at rx rest .steps)

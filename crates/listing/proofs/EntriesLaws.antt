@@ -11,8 +11,8 @@ use Rattle.events.proofs.EventLaws.{event-end}
 use Rattle.model.specs.Calls as calls
 use Rattle.model.specs.Calls.{Step}
 use Rattle.listing.specs.Asked.{Asked, nothing, first, askedBy, askedIn}
-use Rattle.listing.specs.Input.{Entry, reception, tick, take, response, noResponse, bytesOf, Whole, allBytes, Broken, stepOf, stepsOf}
-use Rattle.listing.proofs.EntryLaws.{eventOf, entry-read, payload-read, broken-read}
+use Rattle.listing.specs.Input.{Entry, reception, tick, take, response, noResponse, receptionOf, bytesOf, Whole, allBytes, Broken, stepOf, stepsOf}
+use Rattle.listing.proofs.EntryLaws.{eventOf, entry-read, payload-read, reception-length, reception-payload, broken-read}
 
 abbrev pub bad : Asked
 bad = record { steps = []; bad = true }
@@ -25,18 +25,20 @@ one-asked : (e : Entry) (xs ys : List ℕ) (rx : ℕ) (rest : Asked) → Whole e
     → askedBy (eventOf e) (xs ++ (bytesOf e ++ ys)) (length xs) rx rest ≡ then (stepOf rx e ∷ []) rest
 unfolding askedBy eventOf bytesOf stepOf Whole
 one-asked (reception node id size bytes) xs ys rx rest w =
-    ap (λ (p : List ℕ). first (calls.reception node id p) rest) (payload-read 16 node _ _ size bytes xs ys w)
+    ap (λ (p : List ℕ). first (calls.reception node id p) rest) (reception-payload node id size bytes xs ys w)
 one-asked tick xs ys rx rest w = refl
 one-asked (take node) xs ys rx rest w = refl
 one-asked (response node id size bytes sum) xs ys rx rest w =
     rw (append-assoc bytes (sum ∷ []) ys)
-    (ap (λ (p : List ℕ). first (calls.response node id p sum) rest) (payload-read 20 node _ _ size bytes xs (sum ∷ ys) w))
+    (ap (λ (p : List ℕ). first (calls.response node id p sum) rest) (payload-read (20 ∷ node ∷ id / 256 ∷ id % 256 ∷ []) size bytes xs (sum ∷ ys) w))
 one-asked (noResponse node id) xs ys rx rest w = refl
 
 -- the next record begins behind this one
 moved : (e : Entry) (xs : List ℕ) → Whole e → length xs + eventSize (eventOf e) ≡ length (xs ++ bytesOf e)
 unfolding eventSize eventOf bytesOf Whole
-moved (reception node id size bytes) xs w = omega (arith, length-append xs (16 ∷ node ∷ id / 256 ∷ id % 256 ∷ size ∷ bytes))
+moved (reception node id size bytes) xs w =
+    let front = receptionOf node id in
+    omega (arith, length-append xs (front ++ size ∷ bytes), length-append front (size ∷ bytes), reception-length node id)
 moved tick xs w = omega (arith, length-append xs (17 ∷ []))
 moved (take node) xs w = omega (arith, length-append xs (18 ∷ node ∷ []))
 moved (response node id size bytes sum) xs w =
@@ -45,7 +47,7 @@ moved (noResponse node id) xs w = omega (arith, length-append xs (21 ∷ node �
 
 some : (e : Entry) → 0 < length (bytesOf e)
 unfolding bytesOf
-some (reception node id size bytes) = omega arith
+some (reception node id size bytes) = omega (arith, length-append (receptionOf node id) (size ∷ bytes))
 some tick = omega arith
 some (take node) = omega arith
 some (response node id size bytes sum) = omega arith
@@ -79,4 +81,4 @@ pub ends-broken : (tail : List ℕ) (rx : ℕ) → Broken tail → Ends tail rx 
 unfolding askedIn askedBy
 ends-broken tail rx t zero xs h = absurd (omega (arith, ap (λ (l : List ℕ). length l) (t .begins)))
 ends-broken tail rx t (suc b) xs h =
-    rw (t .begins, broken-read (t .kind) (t .rest) xs (t .reception) (t .tick) (t .take) (t .response) (t .noResponse)) refl
+    rw (t .begins, broken-read (t .kind) (t .rest) xs (t .reception) (t .tick) (t .take) (t .extended) (t .response) (t .noResponse)) refl

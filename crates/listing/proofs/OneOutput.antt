@@ -12,9 +12,12 @@ use Rattle.facts.specs.Good.{Each}
 use Rattle.answers.specs.declared.Opened.{Opened}
 use Rattle.answers.specs.declared.Opened.the-variants.{Open, Refused}
 use Rattle.base.specs.Numbers.{Bytes}
+use Rattle.records.specs.declared.record.Id.{Id}
+use Rattle.records.specs.declared.record.Id.the-variants.{Standard, Extended}
 use Rattle.model.specs.Calls.{closed}
 use Rattle.listing.specs.Output.{bench, modelOutput}
-use Rattle.listing.specs.Input.{Entry, reception, tick, take, response, noResponse, bytesOf, Whole, allBytes, Broken, inputOf, InputRules, OneOutput}
+use Rattle.listing.specs.Input.{Entry, reception, tick, take, response, noResponse, receptionOf, bytesOf, Whole, allBytes, Broken, inputOf}
+use Rattle.listing.specs.Input.{InputRules, OneOutput}
 use Rattle.listing.proofs.InputRules.{output-meets}
 
 -- ---- the events
@@ -50,11 +53,56 @@ abbrev Shorter : List ℕ → Type 0
 Shorter xs = (ys : List ℕ) → length ys < length xs → Bytes ys → Split ys
 
 -- a record that is cut or unknown
-cut : (k : ℕ) (xs : List ℕ) → (k ≡ 16 → length xs < 12) → (k ≡ 17 → ⊥) → (k ≡ 18 → length xs < 1) → (k ≡ 20 → length xs < 13)
-    → (k ≡ 21 → length xs < 3) → Split (k ∷ xs)
-cut k xs h16 h17 h18 h20 h21 =
+cut : (k : ℕ) (xs : List ℕ) → (k ≡ 16 → length xs < 12) → (k ≡ 17 → ⊥) → (k ≡ 18 → length xs < 1) → (k ≡ 19 → length xs < 14)
+    → (k ≡ 20 → length xs < 13) → (k ≡ 21 → length xs < 3) → Split (k ∷ xs)
+cut k xs h16 h17 h18 h19 h20 h21 =
     stop (k ∷ xs)
-    (inr (record { kind = k; rest = xs; begins = refl; reception = h16; tick = h17; take = h18; response = h20; noResponse = h21 }))
+    (inr
+    (record { kind = k; rest = xs; begins = refl; reception = h16; tick = h17; take = h18; extended = h19; response = h20; noResponse = h21 }))
+
+-- a reception behind its ID
+received : (n : ℕ) (id : Id) (rest : List ℕ) → 9 ≤ length rest → Bytes rest → Shorter rest → Split (receptionOf n id ++ rest)
+unfolding bytesOf Whole
+received n id [] h b more = absurd (omega arith)
+received n id (s ∷ ys) h b more =
+    let front = receptionOf n id in
+    let shape : front ++ s ∷ ys ≡ (front ++ s ∷ firstOf 8 ys) ++ drop 8 ys =
+    rw (append-assoc front (s ∷ firstOf 8 ys) (drop 8 ys), take-append-drop 8 ys) refl in
+    grow (reception n id s (firstOf 8 ys)) _ (drop 8 ys) (length-take-le 8 ys (omega arith)) shape
+    (more (drop 8 ys) (omega (arith, length-drop 8 ys)) (later 8 ys (later 1 (s ∷ ys) b)))
+
+-- the bytes of a number of four
+module _ (i j k l : ℕ) (d1 : j < 256) (d2 : k < 256) (d3 : l < 256) where
+  abbrev four : ℕ
+  four = ((i * 256 + j) * 256 + k) * 256 + l
+
+  four-0 : four / 16777216 ≡ i
+  four-0 = omega arith
+
+  four-1 : four / 65536 % 256 ≡ j
+  four-1 = let high : four / 65536 ≡ i * 256 + j = omega arith in omega arith
+
+  four-2 : four / 256 % 256 ≡ k
+  four-2 = let high : four / 256 ≡ (i * 256 + j) * 256 + k = omega arith in omega arith
+
+  four-3 : four % 256 ≡ l
+  four-3 = omega arith
+
+-- one whose ID has four bytes
+long : (xs : List ℕ) → 14 ≤ length xs → Bytes xs → Shorter xs → Split (19 ∷ xs)
+unfolding receptionOf
+long [] h b more = absurd (omega arith)
+long (n ∷ []) h b more = absurd (omega arith)
+long (n ∷ i ∷ []) h b more = absurd (omega arith)
+long (n ∷ i ∷ j ∷ []) h b more = absurd (omega arith)
+long (n ∷ i ∷ j ∷ k ∷ []) h b more = absurd (omega arith)
+long (n ∷ i ∷ j ∷ k ∷ l ∷ ys) h b more =
+    let d1 : j < 256 = b 2 in
+    let d2 : k < 256 = b 3 in
+    let d3 : l < 256 = b 4 in
+    let shape : 19 ∷ n ∷ i ∷ j ∷ k ∷ l ∷ ys ≡ receptionOf n (Extended (four i j k l d1 d2 d3)) ++ ys =
+    rw (four-0 i j k l d1 d2 d3, four-1 i j k l d1 d2 d3, four-2 i j k l d1 d2 d3, four-3 i j k l d1 d2 d3) refl in
+    rw shape (received n (Extended (four i j k l d1 d2 d3)) ys (omega arith) (later 5 (n ∷ i ∷ j ∷ k ∷ l ∷ ys) b) (λ zs m c. more zs (omega arith) c))
 
 -- the node and the ID that most kinds begin with
 record Headed (xs : List ℕ) : Type 0 where
@@ -78,13 +126,9 @@ module _ (n id : ℕ) where
   abbrev behind : List ℕ → List ℕ
   behind rest = n ∷ id / 256 ∷ id % 256 ∷ rest
 
-  received : (rest : List ℕ) → 12 ≤ length (behind rest) → Bytes (behind rest) → Shorter (behind rest) → Split (16 ∷ behind rest)
-  unfolding bytesOf Whole
-  received [] h b more = absurd (omega arith)
-  received (s ∷ ys) h b more =
-      let shape : 16 ∷ behind (s ∷ ys) ≡ 16 ∷ behind (s ∷ (firstOf 8 ys ++ drop 8 ys)) = rw (take-append-drop 8 ys) refl in
-      grow (reception n id s (firstOf 8 ys)) _ (drop 8 ys) (length-take-le 8 ys (omega arith)) shape
-      (more (drop 8 ys) (omega (arith, length-drop 8 ys)) (later 8 ys (later 4 (behind (s ∷ ys)) b)))
+  short : (rest : List ℕ) → 12 ≤ length (behind rest) → Bytes (behind rest) → Shorter (behind rest) → Split (16 ∷ behind rest)
+  unfolding receptionOf
+  short rest h b more = received n (Standard id) rest (omega arith) (later 3 (behind rest) b) (λ ys l c. more ys (omega arith) c)
 
   -- eight data bytes, and the checksum behind them
   summed : (s : ℕ) (eight rest : List ℕ) → length eight ≡ 8 → 0 < length rest → Bytes rest → Shorter (behind (s ∷ (eight ++ rest)))
@@ -109,7 +153,9 @@ module _ (n id : ℕ) where
 
 taken : (xs : List ℕ) → Bytes xs → Shorter xs → Split (18 ∷ xs)
 unfolding bytesOf Whole
-taken [] b more = cut 18 [] (λ e. absurd (omega arith)) (λ e. omega arith) (λ e. omega arith) (λ e. absurd (omega arith)) (λ e. absurd (omega arith))
+taken [] b more =
+    cut 18 [] (λ e. absurd (omega arith)) (λ e. omega arith) (λ e. omega arith) (λ e. absurd (omega arith)) (λ e. absurd (omega arith))
+    (λ e. absurd (omega arith))
 taken (n ∷ ys) b more = grow (take n) _ ys tt refl (more ys (omega arith) (later 1 (n ∷ ys) b))
 
 -- by the kind, where the record is long enough for it or is not
@@ -123,22 +169,31 @@ module _ (xs : List ℕ) (b : Bytes xs) (more : Shorter xs) where
       rw same (make (head .node) (head .id) (head .rest) (rw same at l) (rw same at b) (rw same at more))
 
   by-16 : Dec (length xs < 12) → Split (16 ∷ xs)
-  by-16 (yes l) = cut 16 xs (λ e. l) (λ e. omega arith) (λ e. absurd (omega arith)) (λ e. absurd (omega arith)) (λ e. absurd (omega arith))
-  by-16 (no l) = longer 16 12 (omega arith) (omega arith) received
+  by-16 (yes l) =
+      cut 16 xs (λ e. l) (λ e. omega arith) (λ e. absurd (omega arith)) (λ e. absurd (omega arith)) (λ e. absurd (omega arith)) (λ e. absurd (omega arith))
+  by-16 (no l) = longer 16 12 (omega arith) (omega arith) short
+
+  by-19 : Dec (length xs < 14) → Split (19 ∷ xs)
+  by-19 (yes l) =
+      cut 19 xs (λ e. absurd (omega arith)) (λ e. omega arith) (λ e. absurd (omega arith)) (λ e. l) (λ e. absurd (omega arith)) (λ e. absurd (omega arith))
+  by-19 (no l) = long xs (omega arith) b more
 
   by-20 : Dec (length xs < 13) → Split (20 ∷ xs)
-  by-20 (yes l) = cut 20 xs (λ e. absurd (omega arith)) (λ e. omega arith) (λ e. absurd (omega arith)) (λ e. l) (λ e. absurd (omega arith))
+  by-20 (yes l) =
+      cut 20 xs (λ e. absurd (omega arith)) (λ e. omega arith) (λ e. absurd (omega arith)) (λ e. absurd (omega arith)) (λ e. l) (λ e. absurd (omega arith))
   by-20 (no l) = longer 20 13 (omega arith) (omega arith) responded
 
   by-21 : Dec (length xs < 3) → Split (21 ∷ xs)
-  by-21 (yes l) = cut 21 xs (λ e. absurd (omega arith)) (λ e. omega arith) (λ e. absurd (omega arith)) (λ e. absurd (omega arith)) (λ e. l)
+  by-21 (yes l) =
+      cut 21 xs (λ e. absurd (omega arith)) (λ e. omega arith) (λ e. absurd (omega arith)) (λ e. absurd (omega arith)) (λ e. absurd (omega arith)) (λ e. l)
   by-21 (no l) = longer 21 3 (omega arith) (omega arith) silent
 
 -- the first record, where what is shorter is split
 one : (xs : List ℕ) → Bytes xs → Shorter xs → Split xs
 unfolding bytesOf Whole
 one [] b more = stop [] (inl refl)
-one (k ∷ xs) b more = go (ℕ-discrete k 16) (ℕ-discrete k 17) (ℕ-discrete k 18) (ℕ-discrete k 20) (ℕ-discrete k 21)
+one (k ∷ xs) b more =
+    go (ℕ-discrete k 16) (ℕ-discrete k 17) (ℕ-discrete k 18) (ℕ-discrete k 19) (ℕ-discrete k 20) (ℕ-discrete k 21)
   where
     bytes : Bytes xs
     bytes = later 1 (k ∷ xs) b
@@ -146,14 +201,15 @@ one (k ∷ xs) b more = go (ℕ-discrete k 16) (ℕ-discrete k 17) (ℕ-discrete
     less : Shorter xs
     less ys l c = more ys (omega arith) c
 
-    go : Dec (k ≡ 16) → Dec (k ≡ 17) → Dec (k ≡ 18) → Dec (k ≡ 20) → Dec (k ≡ 21) → Split (k ∷ xs)
-    go (yes e) d17 d18 d20 d21 = rw e (by-16 xs bytes less (decLt (length xs) 12))
-    go (no n16) (yes e) d18 d20 d21 = grow tick _ xs tt (rw e refl) (more xs (omega arith) bytes)
-    go (no n16) (no n17) (yes e) d20 d21 = rw e (taken xs bytes less)
-    go (no n16) (no n17) (no n18) (yes e) d21 = rw e (by-20 xs bytes less (decLt (length xs) 13))
-    go (no n16) (no n17) (no n18) (no n20) (yes e) = rw e (by-21 xs bytes less (decLt (length xs) 3))
-    go (no n16) (no n17) (no n18) (no n20) (no n21) =
-        cut k xs (λ f. absurd (n16 f)) n17 (λ f. absurd (n18 f)) (λ f. absurd (n20 f)) (λ f. absurd (n21 f))
+    go : Dec (k ≡ 16) → Dec (k ≡ 17) → Dec (k ≡ 18) → Dec (k ≡ 19) → Dec (k ≡ 20) → Dec (k ≡ 21) → Split (k ∷ xs)
+    go (yes e) d17 d18 d19 d20 d21 = rw e (by-16 xs bytes less (decLt (length xs) 12))
+    go (no n16) (yes e) d18 d19 d20 d21 = grow tick _ xs tt (rw e refl) (more xs (omega arith) bytes)
+    go (no n16) (no n17) (yes e) d19 d20 d21 = rw e (taken xs bytes less)
+    go (no n16) (no n17) (no n18) (yes e) d20 d21 = rw e (by-19 xs bytes less (decLt (length xs) 14))
+    go (no n16) (no n17) (no n18) (no n19) (yes e) d21 = rw e (by-20 xs bytes less (decLt (length xs) 13))
+    go (no n16) (no n17) (no n18) (no n19) (no n20) (yes e) = rw e (by-21 xs bytes less (decLt (length xs) 3))
+    go (no n16) (no n17) (no n18) (no n19) (no n20) (no n21) =
+        cut k xs (λ f. absurd (n16 f)) n17 (λ f. absurd (n18 f)) (λ f. absurd (n19 f)) (λ f. absurd (n20 f)) (λ f. absurd (n21 f))
 
 split : (bound : ℕ) (xs : List ℕ) → length xs ≤ bound → Bytes xs → Split xs
 split zero xs h b = one xs b (λ ys l c. absurd (omega arith))

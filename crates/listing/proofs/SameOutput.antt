@@ -5,6 +5,7 @@ use Prim.Native.Nat.{ℕ, zero, suc, _+_, _-_, _%_}
 use native.Mathlib.Omega.{arith}
 use lib.ListN.{length, replicate, length-replicate}
 use Rattle.base.specs.Pick.{pick}
+use Rattle.records.specs.Ids.{behindId}
 use Rattle.plan.specs.declared.verdict.Verdict.{Verdict}
 use Rattle.plan.specs.declared.verdict.Verdict.the-variants.{Good, Refused}
 use Rattle.plan.specs.Check.{checkPlan}
@@ -59,13 +60,14 @@ one : (e : Event) (bound : ℕ) (input : List ℕ) (at rx : ℕ) (a : List ℕ) 
 unfolding area.eventText area.eventNext area.eventArea area.receivedText area.respondedText area.silentText area.tickedText area.takenText askedBy
     eventSize answerIn areaAfter answerLine repliesIn linesOf TwoBytes pick
 one (Reception node id size) bound input at rx a two rest =
-    let same : id % 65536 ≡ id = omega arith in
-    rw same (called (reception node id (payloadAt input at)) a _ (askedIn bound input (at + 13) rx) (rest (at + 13) _))
+    let behind : at + (behindId id + 9) ≡ at + behindId id + 9 = omega arith in
+    let next = at + behindId id + 9 in
+    rw behind (called (reception node id (payloadAt input (at + behindId id))) a _ (askedIn bound input next rx) (rest next _))
 one Tick bound input at rx a two rest = called (tick (area.fresh rx)) a _ (askedIn bound input (at + 1) rx) (rest (at + 1) _)
 one (Take node) bound input at rx a two rest = called (take node) a _ (askedIn bound input (at + 2) rx) (rest (at + 2) _)
 one (Response node id size sum) bound input at rx a two rest =
     let same : id % 65536 ≡ id = omega arith in
-    rw same (called (response node id (payloadAt input at) sum) a _ (askedIn bound input (at + 14) rx) (rest (at + 14) _))
+    rw same (called (response node id (payloadAt input (at + 4)) sum) a _ (askedIn bound input (at + 14) rx) (rest (at + 14) _))
 one (NoResponse node id) bound input at rx a two rest =
     let same : id % 65536 ≡ id = omega arith in
     rw same (called (noResponse node id) a _ (askedIn bound input (at + 4) rx) (rest (at + 4) _))

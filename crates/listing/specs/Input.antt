@@ -6,6 +6,8 @@ use Prim.Native.Nat.{ℕ, _+_, _*_, _/_, _%_, _≤_, _<_}
 use lib.ListN.{length, replicate, take as firstOf}
 use lib.Dec.{ltb}
 use Rattle.base.specs.Pick.{pick}
+use Rattle.records.specs.declared.record.Id.{Id}
+use Rattle.records.specs.declared.record.Id.the-variants.{Standard, Extended}
 use Rattle.facts.specs.Good.{Each}
 use Rattle.answers.specs.declared.Refusal.{Refusal}
 use Rattle.answers.specs.declared.Opened.the-variants.{Open, Refused}
@@ -15,18 +17,24 @@ use Rattle.model.specs.Calls.{closed, Step, opening, call}
 use Rattle.base.specs.Numbers.{Bytes}
 use Rattle.listing.specs.Output.{bench, told, linesOf, modelOutput}
 
--- ---- "event records: kind 16 reception (node 1, ID 2, length 1, data 8), 17 tick (no body), 18 take (node 1)"; for the calls of a LIN node kind 20
--- response (node 1, ID 2, length 1, data 8, checksum 1), 21 no response (node 1, ID 2)
+-- ---- "event records: kind 16 reception (node 1, ID 2, length 1, data 8), 17 tick (no body), 18 take (node 1)"; "Bench event kind 19 is such a
+-- reception, four-byte ID" (document 02, Ticket 6); for the calls of a LIN node kind 20 response (node 1, ID 2, length 1, data 8, checksum 1), 21 no
+-- response (node 1, ID 2)
 
 pub data Entry : Type 0 where
-  reception : ℕ → ℕ → ℕ → List ℕ → Entry
+  reception : ℕ → Id → ℕ → List ℕ → Entry
   tick : Entry
   take : ℕ → Entry
   response : ℕ → ℕ → ℕ → List ℕ → ℕ → Entry
   noResponse : ℕ → ℕ → Entry
 
+-- a reception up to its length, by the format of its ID
+unfoldable pub receptionOf : ℕ → Id → List ℕ
+receptionOf node (Standard n) = 16 ∷ node ∷ n / 256 ∷ n % 256 ∷ []
+receptionOf node (Extended n) = 19 ∷ node ∷ n / 16777216 ∷ n / 65536 % 256 ∷ n / 256 % 256 ∷ n % 256 ∷ []
+
 unfoldable pub bytesOf : Entry → List ℕ
-bytesOf (reception node id size bytes) = 16 ∷ node ∷ id / 256 ∷ id % 256 ∷ size ∷ bytes
+bytesOf (reception node id size bytes) = receptionOf node id ++ size ∷ bytes
 bytesOf tick = 17 ∷ []
 bytesOf (take node) = 18 ∷ node ∷ []
 bytesOf (response node id size bytes sum) = 20 ∷ node ∷ id / 256 ∷ id % 256 ∷ size ∷ (bytes ++ sum ∷ [])
@@ -51,6 +59,7 @@ pub record Broken (xs : List ℕ) : Type 0 where
   pub reception : kind ≡ 16 → length rest < 12
   pub tick : kind ≡ 17 → ⊥
   pub take : kind ≡ 18 → length rest < 1
+  pub extended : kind ≡ 19 → length rest < 14
   pub response : kind ≡ 20 → length rest < 13
   pub noResponse : kind ≡ 21 → length rest < 3
 

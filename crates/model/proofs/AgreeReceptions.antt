@@ -10,6 +10,7 @@ use lib.ListN.{length, getD}
 use lib.Seq.{ext-getD}
 use Rattle.bits.specs.Payload.{bitAt, differs}
 use Rattle.bits.proofs.CopyLaws.{differs-exactly}
+use Rattle.records.specs.declared.record.Id.{Id}
 use Rattle.records.specs.Nodes.{frame}
 use Rattle.plan.specs.Rows.{Source, copy, failure, Claim}
 use Rattle.answers.specs.declared.Received.the-variants.{NoRow}
@@ -149,7 +150,7 @@ module _ (p : Plan) where
   restarts : (r : ℕ) (s x y : State) → Restarts p r s x → Restarts p r s y → x ≡ y
   restarts r s x y a b = recounts r s x y (a .recounts) (b .recounts) (becomes r _ _ _ _ (a .rxTimers) (b .rxTimers))
 
-  module _ (g h : Running) (s : State) (shape : Shape p s) (n i : ℕ) (payload : List ℕ) where
+  module _ (g h : Running) (s : State) (shape : Shape p s) (n : ℕ) (i : Id) (payload : List ℕ) where
     accepts : (r : ℕ) → Accepts p g s n i payload r → Accepts p h s n i payload r → Agree g h s (reception n i payload)
     accepts r a b =
         record {

@@ -10,6 +10,7 @@ use lib.Seq.{ext-getD}
 use Rattle.bits.proofs.PayloadLaws.{bitAt-lt}
 use Rattle.lin.specs.Identifier.{protectedOf}
 use Rattle.lin.specs.Checksum.{checksumOf}
+use Rattle.records.specs.declared.record.Id.the-variants.{Standard}
 use Rattle.model.specs.Plan.{Plan, rowIn}
 use Rattle.model.specs.State.{State}
 use Rattle.model.specs.Calls.{response, noResponse, Running}
@@ -24,9 +25,9 @@ use Rattle.model.proofs.AgreeReceptions.{in-order, recounts}
 module _ (p : Plan) (g h : Running) (s : State) (shape : Shape p s) (n i : ℕ) where
   -- the Rx frame that is asked for there, or none
   pub polled : n < p .nodes → ((r : ℕ) × Polls p n i r) ⊎ NothingPolled p n i
-  polled l = go (dec-lin p n) (named p g h s shape n i)
+  polled l = go (dec-lin p n) (named p g h s shape n (Standard i))
     where
-      go : Dec (LinNode p n) → ((r : ℕ) × Names p n i r) ⊎ ((r : ℕ) → Names p n i r → ⊥) → ((r : ℕ) × Polls p n i r) ⊎ NothingPolled p n i
+      go : Dec (LinNode p n) → ((r : ℕ) × Names p n (Standard i) r) ⊎ ((r : ℕ) → Names p n (Standard i) r → ⊥) → ((r : ℕ) × Polls p n i r) ⊎ NothingPolled p n i
       go (no c) w = inr (inl c)
       go (yes c) (inr f) = inr (inr f)
       go (yes c) (inl (r, x)) = inl (r, record { there = l; lin = c; names = x })

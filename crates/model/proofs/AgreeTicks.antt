@@ -9,6 +9,7 @@ use lib.ListN.{length, getD}
 use lib.Seq.{ext-getD}
 use Rattle.bits.specs.Payload.{bitAt}
 use Rattle.bits.proofs.PayloadLaws.{bitAt-lt, same-bits}
+use Rattle.records.specs.declared.record.Id.{Id}
 use Rattle.records.specs.declared.record.Entry.{Entry}
 use Rattle.records.specs.declared.record.Entry.the-variants as entry
 use Rattle.records.specs.Nodes.{frame, request}
@@ -22,6 +23,7 @@ use Rattle.model.specs.Words.{LinNode, LinRow, Names, Shape, Answers}
 use Rattle.model.specs.TickRules.{TimesOut, Ticks, Reports, Done, TickRules}
 use Rattle.model.specs.TakeRules.{Takes, TakesFrame, TakeRules}
 use Rattle.model.specs.FullnessRules.{FullnessRules}
+use Rattle.model.proofs.Ids.{dec-same}
 use Rattle.model.proofs.Words.{state-same, those-same, falls-same, first-or-none, bit-same}
 use Rattle.model.proofs.Nodes.{dec-lin}
 use Rattle.answers.specs.declared.Fullness.the-variants as counted
@@ -166,7 +168,7 @@ module _ (p : Plan) (g h : Running) (s : State) (shape : Shape p s) where
 
   -- ---- reception
 
-  pub named : (n i : ℕ) → ((r : ℕ) × Names p n i r) ⊎ ((r : ℕ) → Names p n i r → ⊥)
+  pub named : (n : ℕ) (i : Id) → ((r : ℕ) × Names p n i r) ⊎ ((r : ℕ) → Names p n i r → ⊥)
   named n i = ⊎-elim (λ w. inl w) (λ f. inr (λ r x. f r (x .exists) x)) (first-or-none (Names p n i) dec (length (p .rows)))
     where
       go : (r : ℕ) → Dec (r < length (p .rows)) → Dec (rowIn p r .frame .node ≡ n) → Dec (rowIn p r .frame .id ≡ i) → Dec (Names p n i r)
@@ -176,4 +178,4 @@ module _ (p : Plan) (g h : Running) (s : State) (shape : Shape p s) where
       go r (yes l) (yes e) (no d) = no (λ x. d (x .id))
 
       dec : (r : ℕ) → Dec (Names p n i r)
-      dec r = go r (decLt r (length (p .rows))) (ℕ-discrete _ n) (ℕ-discrete _ i)
+      dec r = go r (decLt r (length (p .rows))) (ℕ-discrete _ n) (dec-same _ i)

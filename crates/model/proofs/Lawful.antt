@@ -4,8 +4,9 @@ use mathlib.Core.List.{List, [], _∷_}
 use Prim.Native.Nat.{ℕ, zero, suc, _+_, _≤_, _<_}
 use native.Mathlib.Omega.{arith}
 use lib.ListN.{length, getD}
+use Rattle.records.specs.declared.record.Id.{Id}
 use Rattle.records.specs.Views.{noTx}
-use Rattle.plan.specs.Progress.{keyOf}
+use Rattle.plan.specs.Progress.{rowKey}
 use Rattle.plan.specs.Rows.{widthOf, Row, rowsOf, claimsOf, txOf, noRow}
 use Rattle.facts.specs.Good.{Each, Rising, GoodPlan}
 use Rattle.facts.proofs.Lists.{each-at, each-map}
@@ -17,7 +18,7 @@ use Rattle.model.specs.Words.{Names}
 pub record Lawful (p : Plan) : Type 0 where
   pub node : (t : ℕ) → t < length (p .tx) → txIn p t .node < p .nodes
   pub flags : (t : ℕ) → t < length (p .tx) → txIn p t .flags ≤ 3
-  pub one : (n id q r : ℕ) → Names p n id q → Names p n id r → q ≡ r
+  pub one : (n : ℕ) (id : Id) (q r : ℕ) → Names p n id q → Names p n id r → q ≡ r
   pub frame : (r : ℕ) → r < length (p .rows) → Each (λ c. c .tx < length (p .tx)) (rowIn p r .claims)
   pub bits : (r : ℕ) → r < length (p .rows) → Each (λ c. c .at + widthOf (c .from) ≤ 64) (rowIn p r .claims)
 
@@ -25,19 +26,19 @@ pub record Lawful (p : Plan) : Type 0 where
 
 rows-one :
     (rs : List Row) → Rising rs → (q r : ℕ) → q < length rs → r < length rs
-    → keyOf (getD rs q noRow .frame) ≡ keyOf (getD rs r noRow .frame) → q ≡ r
+    → rowKey (getD rs q noRow .frame) ≡ rowKey (getD rs r noRow .frame) → q ≡ r
 unfolding Rising
 rows-one [] h q r k l e = absurd (omega arith)
 rows-one (x ∷ rs) h zero zero k l e = refl
 rows-one (x ∷ rs) h zero (suc r) k l e =
-    let above = each-at (λ s. keyOf (x .frame) < keyOf (s .frame)) rs noRow r (omega arith) (h .0) in absurd (omega arith)
+    let above = each-at (λ s. rowKey (x .frame) < rowKey (s .frame)) rs noRow r (omega arith) (h .0) in absurd (omega arith)
 rows-one (x ∷ rs) h (suc q) zero k l e =
-    let above = each-at (λ s. keyOf (x .frame) < keyOf (s .frame)) rs noRow q (omega arith) (h .0) in absurd (omega arith)
+    let above = each-at (λ s. rowKey (x .frame) < rowKey (s .frame)) rs noRow q (omega arith) (h .0) in absurd (omega arith)
 rows-one (x ∷ rs) h (suc q) (suc r) k l e = let same = rows-one rs (h .1) q r (omega arith) (omega arith) e in omega arith
 
-same-key : (plan : List ℕ) (n i q r : ℕ) → Names (said plan) n i q → Names (said plan) n i r
-    → keyOf (rowIn (said plan) q .frame) ≡ keyOf (rowIn (said plan) r .frame)
-unfolding keyOf
+same-key : (plan : List ℕ) (n : ℕ) (i : Id) (q r : ℕ) → Names (said plan) n i q → Names (said plan) n i r
+    → rowKey (rowIn (said plan) q .frame) ≡ rowKey (rowIn (said plan) r .frame)
+unfolding rowKey
 same-key plan n i q r x y = rw (x .node, x .id, y .node, y .id)
 
 -- ---- a good plan

@@ -1,3 +1,4 @@
+pub mod Ids
 pub mod Words
 pub mod Entries
 pub mod Nodes

@@ -7,6 +7,7 @@ use lib.ListN.{length, set, length-set}
 use lib.Seq.{getD-set-same, getD-set-other}
 use borrow.Author.Tests.{lt-ltb, le-ltb, le-leb, lt-leb}
 use Rattle.base.specs.Pick.{pick}
+use Rattle.records.specs.declared.record.Id.{Id}
 use Rattle.model.specs.Plan.{Plan, rowIn}
 use Rattle.model.specs.State.{State, withLong}
 use Rattle.model.specs.Reception.{restarted, accepted, foundAnswer, foundState, receivedAnswer, received}
@@ -39,7 +40,7 @@ module _ (p : Plan) where
             record { longs = again .longs; number = again .number; kept = again .kept; txTimers = again .txTimers; queues = again .queues };
       }
 
-  pub meets-reception : (lawful : Lawful p) → (s : State) → Shape p s → (n i : ℕ) (payload : List ℕ) → ReceptionRules p (running p) s n i payload
+  pub meets-reception : (lawful : Lawful p) → (s : State) → Shape p s → (n : ℕ) (i : Id) (payload : List ℕ) → ReceptionRules p (running p) s n i payload
   unfolding running answerOf nextOf receivedAnswer received foundAnswer foundState accepted pick
   meets-reception lawful s shape n i payload =
       record {

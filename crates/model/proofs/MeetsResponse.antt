@@ -10,6 +10,7 @@ use borrow.Author.Tests.{eq-eqb, ne-eqb, lt-ltb, le-ltb, le-leb, lt-leb}
 use Rattle.base.specs.Pick.{pick}
 use Rattle.base.proofs.Picks.{picks, passes}
 use Rattle.clock.specs.Timer.{lowered}
+use Rattle.records.specs.declared.record.Id.the-variants.{Standard}
 use Rattle.model.specs.Plan.{Plan, rowIn}
 use Rattle.model.specs.State.{State, withLong}
 use Rattle.model.specs.Reception.{at, nothing}
@@ -34,12 +35,12 @@ module _ (p : Plan) (lawful : Lawful p) where
 
   polled-at : (n i r : ℕ) → Polls p n i r → polled p n i ≡ at r
   unfolding polled
-  polled-at n i r x = picks _ _ _ (lin-on p n (x .lin)) ∙ found p lawful n i r (x .names)
+  polled-at n i r x = picks _ _ _ (lin-on p n (x .lin)) ∙ found p lawful n (Standard i) r (x .names)
 
   polled-nothing : (n i : ℕ) → NothingPolled p n i → polled p n i ≡ nothing
   unfolding polled
   polled-nothing n i w =
-      ⊎-elim (λ c. passes _ _ _ (lin-off p n c)) (λ f. by-lin p n (λ z. z ≡ nothing) _ _ (λ c. missed p lawful n i f) (λ c. refl)) w
+      ⊎-elim (λ c. passes _ _ _ (lin-off p n c)) (λ f. by-lin p n (λ z. z ≡ nothing) _ _ (λ c. missed p lawful n (Standard i) f) (λ c. refl)) w
 
   -- ---- a response
 

@@ -7,6 +7,7 @@ use native.Mathlib.Omega.{arith}
 use native.Mathlib.Decide.{ℕ-discrete, decLt}
 use lib.ListN.{length}
 use Rattle.base.proofs.Apart.{differ}
+use Rattle.records.specs.declared.record.Id.{Id}
 use Rattle.records.specs.declared.record.Entry.{Entry}
 use Rattle.records.specs.declared.record.Entry.the-variants as entry
 use Rattle.plan.specs.Rows.{Claim}
@@ -54,12 +55,12 @@ module _ (p : Plan) (g : Running) (meets : Runs p g) (s : State) (k : Shape p s)
   Left c = g .next s c ≡ s
 
   -- a reception is accepted for the Rx frame that it names, or it is answered otherwise and leaves the state
-  abbrev pub ReceptionOutcome : ℕ → ℕ → List ℕ → Type 0
+  abbrev pub ReceptionOutcome : ℕ → Id → List ℕ → Type 0
   ReceptionOutcome n i payload =
       ((x : Received) × (x ≡ Accepted → ⊥) × Answers g s (reception n i payload) (received x))
       ⊎ ((r : ℕ) × Names p n i r × (LinNode p n → ⊥) × Accepts p g s n i payload r)
 
-  pub reception-outcome : (n i : ℕ) (payload : List ℕ) → ReceptionOutcome n i payload
+  pub reception-outcome : (n : ℕ) (i : Id) (payload : List ℕ) → ReceptionOutcome n i payload
   reception-outcome n i payload = go (decLt n (p .nodes)) (dec-lin p n) (decLt 8 (length payload)) (named p g g s k n i)
     where
       a : ReceptionRules p g s n i payload

@@ -9,7 +9,8 @@ use Rattle.base.proofs.Picks.{both}
 use Rattle.records.specs.declared.record.TxFrame.{TxFrame}
 use Rattle.records.specs.declared.record.Record.{Record}
 use Rattle.records.specs.Views.{onTx, noTx}
-use Rattle.records.specs.Kinds.{eightAt, txAt}
+use Rattle.records.specs.Ids.{behindId}
+use Rattle.records.specs.Kinds.{eightAt, txAt, txRecord, rxRecord}
 use Rattle.records.specs.Records.{recordAt, recordsFrom, recordsAt, records, eightBytes}
 use Rattle.records.proofs.RecordLaws.{by-record}
 use Rattle.records.proofs.Variants.{by-tx}
@@ -35,8 +36,9 @@ eight-bytes plan at b (suc (suc (suc (suc (suc (suc (suc zero))))))) = b (at + 7
 eight-bytes plan at b (suc (suc (suc (suc (suc (suc (suc (suc i)))))))) = omega arith
 
 record-bytes : (plan : List ℕ) → Bytes plan → (at : ℕ) → BytesIn (recordAt plan at)
-unfolding txAt BytesIn
-record-bytes plan b at = by-record BytesIn plan at (λ fault. tt) tt tt (eight-bytes plan (at + 9) b) tt tt tt
+unfolding txAt txRecord rxRecord BytesIn
+record-bytes plan b at =
+    by-record BytesIn plan at (λ fault. tt) tt tt (λ id w. eight-bytes plan (at + behindId id + 5) b) (λ id w. tt) tt tt
 
 from-bytes : (plan : List ℕ) → Bytes plan → (bound at : ℕ) → Each BytesIn (recordsFrom bound plan at)
 unfolding recordsFrom Each

@@ -5,46 +5,50 @@ use mathlib.Core.Logic.{inl, inr, ⊎-elim, dite, _↔_}
 use mathlib.Core.List.{List, [], _∷_}
 use Prim.Native.Nat.{ℕ, zero, suc, _+_, _≤_, _<_}
 use native.Mathlib.Omega.{arith}
-use native.Mathlib.Decide.{ℕ-discrete, decLt}
-use lib.Dec.{eqb, ltb}
+use native.Mathlib.Decide.{ℕ-discrete}
+use lib.Dec.{eqb}
 use lib.ListN.{length, getD}
-use borrow.Author.Tests.{eq-eqb, ne-eqb, lt-ltb, le-ltb}
+use borrow.Author.Tests.{eq-eqb, ne-eqb}
 use Rattle.base.specs.Pick.{pick}
 use Rattle.base.proofs.Picks.{picks, passes}
+use Rattle.records.specs.declared.record.Id.{Id}
+use Rattle.records.specs.Ids.{Before, isBefore}
+use Rattle.records.proofs.IdLaws.{is-before}
 use Rattle.plan.specs.Rows.{Row, noRow}
 use Rattle.facts.specs.Good.{Each}
 use Rattle.model.specs.Plan.{Plan}
 use Rattle.model.specs.Reception.{smaller}
 use Rattle.model.specs.Words.{In, Ascending, Those, Smaller}
+use Rattle.model.proofs.Ids.{dec-before, not-before}
 use Rattle.model.proofs.Words.{those-same, dec-both}
 
 -- ---- one row
 
-module _ (n i : ℕ) where
+module _ (n : ℕ) (i : Id) where
   abbrev Has : Row → Type 0
-  Has x = (x .frame .node ≡ n) × (x .frame .id < i)
+  Has x = (x .frame .node ≡ n) × Before (x .frame .id) i
 
   -- what a row with a smaller ID chooses, and what any other
-  chosen : {A : Type 0} (u v : A) (x : Row) → Has x → pick (eqb (x .frame .node) n) (pick (ltb (x .frame .id) i) u v) v ≡ u
-  chosen u v x h = picks _ _ _ (eq-eqb _ n (h .0)) ∙ picks _ _ _ (lt-ltb _ i (h .1))
+  chosen : {A : Type 0} (u v : A) (x : Row) → Has x → pick (eqb (x .frame .node) n) (pick (isBefore (x .frame .id) i) u v) v ≡ u
+  chosen u v x h = picks _ _ _ (eq-eqb _ n (h .0)) ∙ picks _ _ _ (is-before _ i .1 (h .1))
 
-  passed : {A : Type 0} (u v : A) (x : Row) → (Has x → ⊥) → pick (eqb (x .frame .node) n) (pick (ltb (x .frame .id) i) u v) v ≡ v
-  passed u v x d = go (ℕ-discrete (x .frame .node) n) (decLt (x .frame .id) i)
+  passed : {A : Type 0} (u v : A) (x : Row) → (Has x → ⊥) → pick (eqb (x .frame .node) n) (pick (isBefore (x .frame .id) i) u v) v ≡ v
+  passed u v x d = go (ℕ-discrete (x .frame .node) n) (dec-before (x .frame .id) i)
     where
-      go : Dec (x .frame .node ≡ n) → Dec (x .frame .id < i) → pick (eqb (x .frame .node) n) (pick (ltb (x .frame .id) i) u v) v ≡ v
+      go : Dec (x .frame .node ≡ n) → Dec (Before (x .frame .id) i) → pick (eqb (x .frame .node) n) (pick (isBefore (x .frame .id) i) u v) v ≡ v
       go (yes a) (yes b) = absurd (d (a, b))
-      go (yes a) (no b) = picks _ _ _ (eq-eqb _ n a) ∙ passes _ _ _ (le-ltb _ i (omega arith))
+      go (yes a) (no b) = picks _ _ _ (eq-eqb _ n a) ∙ passes _ _ _ (not-before _ i b)
       go (no a) w = passes _ _ _ (ne-eqb _ n a)
 
   dec-has : (x : Row) → Dec (Has x)
-  dec-has x = dec-both (ℕ-discrete (x .frame .node) n) (decLt (x .frame .id) i)
+  dec-has x = dec-both (ℕ-discrete (x .frame .node) n) (dec-before (x .frame .id) i)
 
   -- ---- their numbers, the first of these rows having number r
 
   unfoldable pub numbers : ℕ → List Row → List ℕ
   numbers r [] = []
   numbers r (x ∷ xs) =
-      pick (eqb (x .frame .node) n) (pick (ltb (x .frame .id) i) (r ∷ numbers (suc r) xs) (numbers (suc r) xs)) (numbers (suc r) xs)
+      pick (eqb (x .frame .node) n) (pick (isBefore (x .frame .id) i) (r ∷ numbers (suc r) xs) (numbers (suc r) xs)) (numbers (suc r) xs)
 
   one-more : (r : ℕ) (x : Row) (xs : List Row) → Has x → numbers r (x ∷ xs) ≡ r ∷ numbers (suc r) xs
   unfolding numbers
@@ -108,7 +112,7 @@ module _ (n i : ℕ) where
       go (yes u) m = rw (one-more r x xs u) (inr m)
       go (no d) m = rw (no-more r x xs d) m
 
-pub those-smaller : (p : Plan) (n i : ℕ) → Those (Smaller p n i) (numbers n i 0 (p .rows))
+pub those-smaller : (p : Plan) (n : ℕ) (i : Id) → Those (Smaller p n i) (numbers n i 0 (p .rows))
 those-smaller p n i =
     record {
       order = in-order n i 0 (p .rows);
@@ -162,6 +166,6 @@ module _ {P : ℕ → Type 0} (first count : ℕ) (exactly : (r : ℕ) → P r �
       }
 
 -- so many does the model count
-pub counts : (p : Plan) (n i first count : ℕ) → ((r : ℕ) → Smaller p n i r ↔ ((first ≤ r) × (r < first + count))) → smaller n i (p .rows) ≡ count
+pub counts : (p : Plan) (n : ℕ) (i : Id) (first count : ℕ) → ((r : ℕ) → Smaller p n i r ↔ ((first ≤ r) × (r < first + count))) → smaller n i (p .rows) ≡ count
 counts p n i first count exactly =
     sym (many n i 0 (p .rows)) ∙ ap length (those-same (those-smaller p n i) (those-run first count exactly)) ∙ run-many first count

@@ -1,6 +1,7 @@
 -- Any openings and calls on one area, and all that a caller is answered: numbers, report bytes, payload bytes.
 use Prim.Native.Nat.{ℕ}
 use mathlib.Core.List.{List, [], _∷_}
+use Rattle.records.specs.declared.record.Id.{Id}
 use Rattle.plan.specs.Check.{checkPlan}
 use Rattle.answers.specs.declared.Refusal.the-variants.{NotOpen}
 use Rattle.answers.specs.declared.Opened.{Opened}
@@ -29,7 +30,7 @@ use Rattle.model.specs.Fullness.{fullnessOf}
 -- ---- a call on an area in which a plan is open
 
 pub data Call : Type 0 where
-  reception : ℕ → ℕ → List ℕ → Call
+  reception : ℕ → Id → List ℕ → Call
   response : ℕ → ℕ → List ℕ → ℕ → Call
   noResponse : ℕ → ℕ → Call
   tick : List ℕ → Call

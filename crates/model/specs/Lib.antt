@@ -11,6 +11,7 @@ pub mod Calls
 pub mod Listing
 pub mod ShortGaps
 pub mod Polling
+pub mod Bridge
 pub mod Words
 pub mod OpeningRules
 pub mod ReceptionRules

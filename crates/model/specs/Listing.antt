@@ -1,6 +1,7 @@
 -- "Plan, 39 bytes .. Events: ..": document 01's listing, from the plan's bytes to the answers, as a case of the model.
 use mathlib.Core.Path.{_≡_}
 use mathlib.Core.List.{List, [], _∷_}
+use Rattle.records.specs.declared.record.Id.the-variants.{Standard}
 use Rattle.facts.specs.PlanCases.{listing}
 use Rattle.answers.specs.declared.Opened.the-variants.{Open}
 use Rattle.answers.specs.declared.Received.the-variants.{Accepted, NoRow, TooShort}
@@ -14,13 +15,13 @@ use Rattle.model.specs.Calls.{reception, tick, take, received, ticked, t
 -- one byte 2C; ID 0020, no bytes." The report that a tick is lent has one byte, which was 9.
 abbrev pub steps : List Step
 steps =
-    opening listing ∷ call (take 0) ∷ call (reception 0 0x20 (0x2C ∷ [])) ∷ call (take 0) ∷ call (tick (9 ∷ [])) ∷ call (tick (9 ∷ [])) ∷ call (tick (9 ∷ []))
-    ∷ call (take 0) ∷ call (tick (9 ∷ [])) ∷ call (reception 0 0x20 (0x2C ∷ [])) ∷ call (take 0) ∷ call (reception 0 0x21 (0x2C ∷ []))
-    ∷ call (reception 0 0x20 []) ∷ []
+    opening listing ∷ call (take 0) ∷ call (reception 0 (Standard 0x20) (0x2C ∷ [])) ∷ call (take 0) ∷ call (tick (9 ∷ [])) ∷ call (tick (9 ∷ []))
+    ∷ call (tick (9 ∷ [])) ∷ call (take 0) ∷ call (tick (9 ∷ [])) ∷ call (reception 0 (Standard 0x20) (0x2C ∷ [])) ∷ call (take 0)
+    ∷ call (reception 0 (Standard 0x21) (0x2C ∷ [])) ∷ call (reception 0 (Standard 0x20) []) ∷ []
 
 -- Tx frame 0, after which none waits
 abbrev pub aFrame : Taken
-aFrame = Frame (record { tx = record { 0 = 0 }; id = 256; size = 2; waiting = 0; framing = Can })
+aFrame = Frame (record { tx = record { 0 = 0 }; id = Standard 256; size = 2; waiting = 0; framing = Can })
 
 abbrev pub told : List Reply
 told =

@@ -3,6 +3,7 @@ use mathlib.Core.Path.{_≡_}
 use mathlib.Core.List.{List, []}
 use Prim.Native.Nat.{ℕ, _≤_, _<_}
 use lib.ListN.{length, getD}
+use Rattle.records.specs.declared.record.Id.{Id}
 use Rattle.records.specs.Records.{records, eightBytes}
 use Rattle.plan.specs.declared.verdict.Reason.{Reason}
 use Rattle.plan.specs.Refusals.{numberOf}
@@ -66,7 +67,7 @@ pub record Closed (g : Gateway) (c : Call) (x : Answer) : Type 0 where
   pub stays : g .next closed c ≡ closed
 
 pub record ClosedRules (g : Gateway) : Type 0 where
-  pub reception : (n id : ℕ) (payload : List ℕ) → Closed g (reception n id payload) (received (ofReception.Refused NotOpen))
+  pub reception : (n : ℕ) (id : Id) (payload : List ℕ) → Closed g (reception n id payload) (received (ofReception.Refused NotOpen))
   pub response : (n id : ℕ) (payload : List ℕ) (sum : ℕ) → Closed g (response n id payload sum) (responded (ofResponse.Refused NotOpen))
   pub noResponse : (n id : ℕ) → Closed g (noResponse n id) (silent (ofSilence.Refused NotOpen))
   pub tick : (report : List ℕ) → Closed g (tick report) (ticked (ofTick.Refused NotOpen) report)

@@ -4,6 +4,7 @@
 use mathlib.Core.Path.{_≡_}
 use mathlib.Core.List.{List, [], _∷_}
 use Prim.Native.Nat.{ℕ}
+use Rattle.records.specs.declared.record.Id.the-variants.{Standard}
 use Rattle.facts.specs.PlanCases.{pumps}
 use Rattle.answers.specs.declared.Refusal.the-variants.{NoNode, LongPayload, WrongCall}
 use Rattle.answers.specs.declared.Opened.the-variants.{Open}
@@ -33,16 +34,16 @@ isSilent x = answered (silent x)
 -- Tx frame 0, with the second byte of its payload
 abbrev pub canFrame : ℕ → Reply
 canFrame byte =
-    answered (taken (Frame (record { tx = record { 0 = 0 }; id = 0x100; size = 2; waiting = 0; framing = Can })) (0x02 ∷ byte ∷ []))
+    answered (taken (Frame (record { tx = record { 0 = 0 }; id = Standard 0x100; size = 2; waiting = 0; framing = Can })) (0x02 ∷ byte ∷ []))
 
 -- Tx frame 1, and how many wait still: 42 is the protected identifier of ID 02, and 1E the checksum of 42, 4A and 55
 abbrev pub linFrame : ℕ → Reply
 linFrame waiting =
-    answered (taken (Frame (record { tx = record { 0 = 1 }; id = 0x02; size = 2; waiting = waiting; framing = Lin 0x42 0x1E })) (0x4A ∷ 0x55 ∷ []))
+    answered (taken (Frame (record { tx = record { 0 = 1 }; id = Standard 0x02; size = 2; waiting = waiting; framing = Lin 0x42 0x1E })) (0x4A ∷ 0x55 ∷ []))
 
 -- the request for Rx frame 0: C1 is the protected identifier of ID 01
 abbrev pub aRequest : ℕ → Reply
-aRequest waiting = answered (taken (Request (record { rx = record { 0 = 0 }; id = 0x01; size = 1; waiting = waiting; protected = 0xC1 })) [])
+aRequest waiting = answered (taken (Request (record { rx = record { 0 = 0 }; id = Standard 0x01; size = 1; waiting = waiting; protected = 0xC1 })) [])
 
 abbrev pub nothingWaits : Reply
 nothingWaits = answered (taken Nothing [])
@@ -59,7 +60,7 @@ pollSteps =
     ∷ call (noResponse 1 0x01) ∷ call (noResponse 1 0x01) ∷ call (take 0) ∷ aTick ∷ call (take 0) ∷ aResponse (0x2C ∷ []) 0x12 ∷ call (take 0)
     ∷ call (noResponse 1 0x01)
     -- what is refused, each where the tests after it would refuse too
-    ∷ call (reception 1 0x01 (0 ∷ 0 ∷ 0 ∷ 0 ∷ 0 ∷ 0 ∷ 0 ∷ 0 ∷ 0 ∷ [])) ∷ call (response 2 0x01 (0 ∷ 0 ∷ 0 ∷ 0 ∷ 0 ∷ 0 ∷ 0 ∷ 0 ∷ 0 ∷ []) 0)
+    ∷ call (reception 1 (Standard 0x01) (0 ∷ 0 ∷ 0 ∷ 0 ∷ 0 ∷ 0 ∷ 0 ∷ 0 ∷ 0 ∷ [])) ∷ call (response 2 0x01 (0 ∷ 0 ∷ 0 ∷ 0 ∷ 0 ∷ 0 ∷ 0 ∷ 0 ∷ 0 ∷ []) 0)
     ∷ call (response 0 0x01 (0 ∷ 0 ∷ 0 ∷ 0 ∷ 0 ∷ 0 ∷ 0 ∷ 0 ∷ 0 ∷ []) 0) ∷ call (response 1 0x02 (0 ∷ 0 ∷ 0 ∷ 0 ∷ 0 ∷ 0 ∷ 0 ∷ 0 ∷ 0 ∷ []) 0)
     ∷ aResponse (0 ∷ 0 ∷ 0 ∷ 0 ∷ 0 ∷ 0 ∷ 0 ∷ 0 ∷ 0 ∷ []) 0 ∷ call (noResponse 2 0x01) ∷ call (noResponse 0 0x01) ∷ call (noResponse 1 0x02) ∷ []
 

@@ -6,6 +6,8 @@ use lib.Dec.{eqb, ltb, leb}
 use lib.ListN.{length}
 use Rattle.base.specs.Pick.{pick}
 use Rattle.bits.specs.Payload.{setBit, copied, differs}
+use Rattle.records.specs.declared.record.Id.{Id}
+use Rattle.records.specs.Ids.{sameId, isBefore}
 use Rattle.plan.specs.Rows.{Source, copy, failure, Claim, Row}
 use Rattle.answers.specs.declared.Refusal.the-variants.{NoNode, LongPayload, WrongCall}
 use Rattle.answers.specs.declared.Received.{Received}
@@ -19,14 +21,14 @@ pub data Found : Type 0 where
   nothing : Found
 
 -- the plan's Rx frame of that node and ID, the first of these rows having number r
-unfoldable pub find : ℕ → ℕ → ℕ → List Row → Found
+unfoldable pub find : ℕ → Id → ℕ → List Row → Found
 find n id r [] = nothing
-find n id r (x ∷ xs) = pick (eqb (x .frame .node) n) (pick (eqb (x .frame .id) id) (at r) (find n id (suc r) xs)) (find n id (suc r) xs)
+find n id r (x ∷ xs) = pick (eqb (x .frame .node) n) (pick (sameId (x .frame .id) id) (at r) (find n id (suc r) xs)) (find n id (suc r) xs)
 
 -- "how many of that node's rows have a smaller ID" (document 02, Ticket 4)
-unfoldable pub smaller : ℕ → ℕ → List Row → ℕ
+unfoldable pub smaller : ℕ → Id → List Row → ℕ
 smaller n id [] = 0
-smaller n id (x ∷ xs) = pick (eqb (x .frame .node) n) (pick (ltb (x .frame .id) id) 1 0) 0 + smaller n id xs
+smaller n id (x ∷ xs) = pick (eqb (x .frame .node) n) (pick (isBefore (x .frame .id) id) 1 0) 0 + smaller n id xs
 
 -- "At each destination the Tx frame is scheduled if flag 1 is set, or flag 2 is set and any destination bit differed from the kept one."
 unfoldable pub sentIf : Plan → ℕ → Bool → State → ℕ → State
@@ -55,7 +57,7 @@ unfoldable pub accepted : Plan → State → ℕ → List ℕ → State
 accepted p s r payload = put p (restarted p s r) payload (rowIn p r .claims)
 
 -- "Answer 1 carries this number" (document 02, Ticket 4)
-unfoldable pub foundAnswer : Plan → ℕ → ℕ → Found → List ℕ → Received
+unfoldable pub foundAnswer : Plan → ℕ → Id → Found → List ℕ → Received
 foundAnswer p n id nothing payload = NoRow (smaller n id (p .rows))
 foundAnswer p n id (at r) payload = pick (ltb (length payload) (rowIn p r .frame .size)) TooShort Accepted
 
@@ -64,13 +66,13 @@ foundState p s nothing payload = s
 foundState p s (at r) payload = pick (ltb (length payload) (rowIn p r .frame .size)) s (accepted p s r payload)
 
 -- 12, then 16: "the old reception gives 16 on a LIN node, after 12" (document 02, Ticket 2), then 13: "a received payload is longer than 8 bytes"
-unfoldable pub receivedAnswer : Plan → State → ℕ → ℕ → List ℕ → Received
+unfoldable pub receivedAnswer : Plan → State → ℕ → Id → List ℕ → Received
 receivedAnswer p s n id payload =
     pick (ltb n (p .nodes))
     (pick (onLin p n) (Refused WrongCall)
     (pick (leb (length payload) 8) (foundAnswer p n id (find n id 0 (p .rows)) payload) (Refused LongPayload)))
     (Refused NoNode)
 
-unfoldable pub received : Plan → State → ℕ → ℕ → List ℕ → State
+unfoldable pub received : Plan → State → ℕ → Id → List ℕ → State
 received p s n id payload =
     pick (ltb n (p .nodes)) (pick (onLin p n) s (pick (leb (length payload) 8) (foundState p s (find n id 0 (p .rows)) payload) s)) s

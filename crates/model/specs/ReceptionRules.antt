@@ -5,6 +5,7 @@ use mathlib.Core.List.{List, [], _∷_, _++_}
 use Prim.Native.Nat.{ℕ, _+_, _≤_, _<_}
 use lib.ListN.{length, getD}
 use Rattle.bits.specs.Payload.{bitAt}
+use Rattle.records.specs.declared.record.Id.{Id}
 use Rattle.records.specs.Nodes.{frame}
 use Rattle.plan.specs.Rows.{copy, failure, Claim}
 use Rattle.answers.specs.declared.Refusal.the-variants.{NoNode, LongPayload, WrongCall}
@@ -89,19 +90,19 @@ pub record Restarts (p : Plan) (r : ℕ) (s x : State) : Type 0 where
   pub rxTimers : Becomes r (rowIn p r .frame .reload) (s .rxTimers) (x .rxTimers)
   pub recounts : Recounts p r s x
 
-pub record Accepts (p : Plan) (g : Running) (s : State) (n id : ℕ) (payload : List ℕ) (r : ℕ) : Type 0 where
+pub record Accepts (p : Plan) (g : Running) (s : State) (n : ℕ) (id : Id) (payload : List ℕ) (r : ℕ) : Type 0 where
   pub answer : g .answer s (reception n id payload) ≡ received Accepted
   pub again : State
   pub restarts : Restarts p r s again
   pub puts : InOrder p payload (rowIn p r .claims) again (g .next s (reception n id payload))
 
 -- "A lookup that finds nothing should say how many of that node's rows have a smaller ID. Answer 1 carries this number" (document 02, Ticket 4)
-pub record Misses (p : Plan) (g : Running) (s : State) (n id : ℕ) (payload : List ℕ) : Type 0 where
+pub record Misses (p : Plan) (g : Running) (s : State) (n : ℕ) (id : Id) (payload : List ℕ) : Type 0 where
   pub rows : List ℕ
   pub those : Those (Smaller p n id) rows
   pub answers : Answers g s (reception n id payload) (received (NoRow (length rows)))
 
-pub record ReceptionRules (p : Plan) (g : Running) (s : State) (n id : ℕ) (payload : List ℕ) : Type 0 where
+pub record ReceptionRules (p : Plan) (g : Running) (s : State) (n : ℕ) (id : Id) (payload : List ℕ) : Type 0 where
   -- 12, then 16: "the old reception gives 16 on a LIN node, after 12" (document 02, Ticket 2), then 13: "a received payload is longer than 8 bytes"
   pub refused : p .nodes ≤ n → Answers g s (reception n id payload) (received (Refused NoNode))
   pub onLin : n < p .nodes → LinNode p n → Answers g s (reception n id payload) (received (Refused WrongCall))

@@ -7,6 +7,7 @@ use lib.ListN.{length, getD}
 use Rattle.base.specs.Pick.{pick}
 use Rattle.lin.specs.Identifier.{protectedOf}
 use Rattle.lin.specs.Checksum.{checksumOf}
+use Rattle.records.specs.declared.record.Id.the-variants.{Standard}
 use Rattle.answers.specs.declared.Refusal.the-variants.{NoNode, LongPayload, WrongCall}
 use Rattle.answers.specs.declared.Responded.{Responded}
 use Rattle.answers.specs.declared.Responded.the-variants as ofResponse
@@ -19,7 +20,7 @@ use Rattle.model.specs.Tick.{expired}
 
 -- the Rx frame that is asked for there; there is none "where the node is not LIN or has no such Rx frame"
 unfoldable pub polled : Plan → ℕ → ℕ → Found
-polled p n id = pick (onLin p n) (find n id 0 (p .rows)) nothing
+polled p n id = pick (onLin p n) (find n (Standard id) 0 (p .rows)) nothing
 
 -- ---- a response
 

@@ -3,6 +3,7 @@ use mathlib.Core.Path.{_≡_}
 use mathlib.Core.List.{List}
 use Prim.Native.Nat.{ℕ}
 use Rattle.base.specs.Numbers.{Bytes}
+use Rattle.records.specs.declared.record.Id.{Id}
 use Rattle.facts.specs.Good.{Each}
 use Rattle.refusals.specs.Table.{Unrefused}
 use Rattle.model.specs.Plan.{Plan, said}
@@ -20,7 +21,7 @@ use Rattle.model.specs.FullnessRules.{FullnessRules}
 -- ---- the calls on a plan that is open
 
 pub record Runs (p : Plan) (g : Running) : Type 0 where
-  pub reception : (s : State) → Shape p s → (n id : ℕ) (payload : List ℕ) → ReceptionRules p g s n id payload
+  pub reception : (s : State) → Shape p s → (n : ℕ) (id : Id) (payload : List ℕ) → ReceptionRules p g s n id payload
   pub response : (s : State) → Shape p s → (n id : ℕ) (payload : List ℕ) (sum : ℕ) → ResponseRules p g s n id payload sum
   pub noResponse : (s : State) → Shape p s → (n id : ℕ) → SilenceRules p g s n id
   pub tick : (s : State) → Shape p s → (report : List ℕ) → TickRules p g s report

@@ -3,6 +3,7 @@
 use mathlib.Core.Path.{_≡_}
 use mathlib.Core.List.{List, [], _∷_}
 use Prim.Native.Nat.{ℕ}
+use Rattle.records.specs.declared.record.Id.the-variants.{Standard}
 use Rattle.facts.specs.PlanCases.{listing}
 use Rattle.answers.specs.declared.Opened.the-variants.{Open}
 use Rattle.answers.specs.declared.Received.the-variants.{Accepted, TooShort}
@@ -18,8 +19,8 @@ aReport x = answered (ticked Done (x ∷ []))
 
 abbrev pub gapSteps : List Step
 gapSteps =
-    opening listing ∷ aTick ∷ aTick ∷ call (reception 0 0x20 (0x2C ∷ [])) ∷ aTick ∷ aTick ∷ aTick ∷ aTick ∷ aTick ∷ aTick ∷ call (reception 0 0x20 [])
-    ∷ aTick ∷ aTick ∷ []
+    opening listing ∷ aTick ∷ aTick ∷ call (reception 0 (Standard 0x20) (0x2C ∷ [])) ∷ aTick ∷ aTick ∷ aTick ∷ aTick ∷ aTick ∷ aTick
+    ∷ call (reception 0 (Standard 0x20) []) ∷ aTick ∷ aTick ∷ []
 
 abbrev pub gapReplies : List Reply
 gapReplies =

@@ -7,8 +7,10 @@ use mathlib.Core.List.{List, [], _∷_}
 use lib.Dec.{ltb}
 use lib.ListN.{length, take}
 use Rattle.base.specs.Pick.{pick}
+use Rattle.records.specs.declared.record.Id.{Id}
 use Rattle.records.specs.declared.record.Entry.{Entry}
 use Rattle.records.specs.declared.record.Entry.the-variants as entry
+use Rattle.records.specs.Ids.{plainId}
 use Rattle.lin.specs.Identifier.{protectedOf}
 use Rattle.lin.specs.Checksum.{checksumOf}
 use Rattle.answers.specs.declared.Refusal.the-variants.{NoNode}
@@ -25,8 +27,8 @@ handed p s (entry.Frame t) = take (txIn p (t .0) .size) (keptOf s (t .0))
 handed p s (entry.Request r) = []
 
 -- what goes with a frame of this ID and payload on node n
-unfoldable pub framingOf : Plan → ℕ → ℕ → List ℕ → Framing
-framingOf p n id payload = pick (onLin p n) (Lin (protectedOf id) (checksumOf (protectedOf id) payload)) Can
+unfoldable pub framingOf : Plan → ℕ → Id → List ℕ → Framing
+framingOf p n id payload = pick (onLin p n) (Lin (protectedOf (plainId id)) (checksumOf (protectedOf (plainId id)) payload)) Can
 
 unfoldable pub entryAnswer : Plan → State → ℕ → Entry → ℕ → Taken
 entryAnswer p s n (entry.Frame t) waiting =
@@ -45,7 +47,7 @@ entryAnswer p s n (entry.Request r) waiting =
       id = rowIn p (r .0) .frame .id;
       size = rowIn p (r .0) .frame .size;
       waiting = waiting;
-      protected = protectedOf (rowIn p (r .0) .frame .id);
+      protected = protectedOf (plainId (rowIn p (r .0) .frame .id));
     })
 
 unfoldable pub oldestAnswer : Plan → State → ℕ → List Entry → Taken

@@ -6,6 +6,7 @@ use Prim.Native.Nat.{ℕ, _≤_, _<_}
 use lib.ListN.{length, take as firstOf}
 use Rattle.records.specs.declared.record.Entry.{Entry}
 use Rattle.records.specs.Nodes.{frame, request}
+use Rattle.records.specs.Ids.{plainId}
 use Rattle.lin.specs.Identifier.{protectedOf}
 use Rattle.lin.specs.Checksum.{checksumOf}
 use Rattle.answers.specs.declared.Refusal.the-variants.{NoNode}
@@ -40,7 +41,7 @@ pub record TakesFrame (p : Plan) (g : Running) (s : State) (n t : ℕ) (rest : L
       (Frame (record { tx = record { 0 = t }; id = txIn p t .id; size = txIn p t .size; waiting = length rest; framing = framing })) payload
   pub can : (LinNode p n → ⊥) → framing ≡ Can
   -- "with the protected identifier of LIN 2.x"; "A take of a LIN Tx frame gives" the checksum "of the payload it hands back." (document 02, Ticket 2)
-  pub lin : LinNode p n → framing ≡ Lin (protectedOf (txIn p t .id)) (checksumOf (protectedOf (txIn p t .id)) payload)
+  pub lin : LinNode p n → framing ≡ Lin (protectedOf (plainId (txIn p t .id))) (checksumOf (protectedOf (plainId (txIn p t .id))) payload)
 
 pub record TakeRules (p : Plan) (g : Running) (s : State) (n : ℕ) : Type 0 where
   -- 12: "no such node"
@@ -56,6 +57,6 @@ pub record TakeRules (p : Plan) (g : Running) (s : State) (n : ℕ) : Type 0 whe
         id = rowIn p r .frame .id;
         size = rowIn p r .frame .size;
         waiting = length rest;
-        protected = protectedOf (rowIn p r .frame .id);
+        protected = protectedOf (plainId (rowIn p r .frame .id));
       }))
       []

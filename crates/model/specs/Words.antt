@@ -5,7 +5,10 @@ use mathlib.Core.List.{List, [], _∷_}
 use Prim.Native.Nat.{ℕ, _<_}
 use lib.ListN.{length, getD}
 use Rattle.base.specs.Numbers.{Bytes}
+use Rattle.records.specs.declared.record.Id.{Id}
+use Rattle.records.specs.declared.record.Id.the-variants.{Standard}
 use Rattle.records.specs.declared.record.NodeType.the-variants.{Can, Lin}
+use Rattle.records.specs.Ids.{Before}
 use Rattle.facts.specs.Good.{Each}
 use Rattle.model.specs.Plan.{Plan, rowIn}
 use Rattle.model.specs.State.{State, keptOf}
@@ -35,26 +38,27 @@ abbrev pub LinRow : Plan → ℕ → Type 0
 LinRow p r = LinNode p (rowIn p r .frame .node)
 
 -- Rx frame r is the plan's frame of node n with this ID
-pub record Names (p : Plan) (n i r : ℕ) : Type 0 where
+pub record Names (p : Plan) (n : ℕ) (i : Id) (r : ℕ) : Type 0 where
   pub exists : r < length (p .rows)
   pub node : rowIn p r .frame .node ≡ n
   pub id : rowIn p r .frame .id ≡ i
 
--- Rx frame r is that frame, and its node is there and is a LIN node
+-- Rx frame r is that frame, and its node is there and is a LIN node, where no ID has 29 bits
 pub record Polls (p : Plan) (n i r : ℕ) : Type 0 where
   pub there : n < p .nodes
   pub lin : LinNode p n
-  pub names : Names p n i r
+  pub names : Names p n (Standard i) r
 
 -- "the node is not LIN or has no such Rx frame" (document 02, Ticket 2)
 abbrev pub NothingPolled : Plan → ℕ → ℕ → Type 0
-NothingPolled p n i = (LinNode p n → ⊥) ⊎ ((r : ℕ) → Names p n i r → ⊥)
+NothingPolled p n i = (LinNode p n → ⊥) ⊎ ((r : ℕ) → Names p n (Standard i) r → ⊥)
 
--- Rx frame r is one of the plan's frames of node n, and has a smaller ID
-pub record Smaller (p : Plan) (n i r : ℕ) : Type 0 where
+-- Rx frame r is one of the plan's frames of node n, and has a smaller ID: "11-bit rows come before 29-bit ones, each in ascending order, and the place of
+-- Ticket 4 counts in that order" (document 02, Ticket 6)
+pub record Smaller (p : Plan) (n : ℕ) (i : Id) (r : ℕ) : Type 0 where
   pub exists : r < length (p .rows)
   pub node : rowIn p r .frame .node ≡ n
-  pub id : rowIn p r .frame .id < i
+  pub id : Before (rowIn p r .frame .id) i
 
 -- a payload: eight bytes
 pub record Payload (xs : List ℕ) : Type 0 where

@@ -16,7 +16,7 @@ use Rattle.records.specs.declared.record.RxFrame.{RxFrame}
 use Rattle.records.specs.declared.record.Record.{Record}
 use Rattle.records.specs.declared.record.Record.the-variants.{Head, Node, Tx, Rx, Signal, Destination, Broken}
 use Rattle.area.specs.Layout.{areaLength, orderByte, nodeCountByte, canCountByte, txCountBytes, rxCountBytes, LongEnough, node, queue}
-use Rattle.opening.specs.Opened.{withTxTimer, withPayload, withFrame, withTx, withRxTimer, withRow, withNodeRow, withRequest, withRx}
+use Rattle.opening.specs.Opened.{withTxTimer, withPayload, withFrame, withTxPlace, withTx, withRxTimer, withKey, withRow, withNodeRow, withRequest, withRx}
 use Rattle.opening.specs.Opened.{withCan, withNode, withRecord, withRecords, ringsBefore, withRings, withFullness}
 
 pub record Alike (a b : List ℕ) : Type 0 where
@@ -64,20 +64,24 @@ alike-frame : (n : ℕ) {a b : List ℕ} → n < 16 → Alike a b → Alike (wit
 unfolding withFrame
 alike-frame n h s = alike-setLow _ (rw (alike-lowAt s (queue n + 2) (omega arith))) s
 
+alike-tx-place : (t at : ℕ) (x : TxFrame) {a b : List ℕ} → Alike a b → Alike (withTxPlace t at x a) (withTxPlace t at x b)
+unfolding withTxPlace
+alike-tx-place t at x s = alike-set _ refl (alike-setLow _ refl s)
+
 alike-tx : (at : ℕ) (x : TxFrame) {a b : List ℕ} → Alike a b → Alike (withTx at x a) (withTx at x b)
 unfolding withTx
 alike-tx at x s =
     rw (alike-lowAt s txCountBytes (omega arith))
     (alike-setLow txCountBytes refl
-    (alike-frame (x .node % 16) (omega arith) (alike-payload _ (x .payload) (alike-tx-timer _ x (alike-setLow _ refl s)))))
+    (alike-frame (x .node % 16) (omega arith) (alike-payload _ (x .payload) (alike-tx-timer _ x (alike-tx-place _ at x s)))))
 
 alike-rx-timer : (r : ℕ) (x : RxFrame) {a b : List ℕ} → Alike a b → Alike (withRxTimer r x a) (withRxTimer r x b)
 unfolding withRxTimer
 alike-rx-timer r x s = alike-set _ refl (alike-set _ refl (alike-set _ refl (alike-set _ refl s)))
 
 alike-row : (r at : ℕ) (x : RxFrame) {a b : List ℕ} → Alike a b → Alike (withRow r at x a) (withRow r at x b)
-unfolding withRow
-alike-row r at x s = alike-setLow _ refl (alike-setLow _ refl (alike-setLow _ refl s))
+unfolding withRow withKey
+alike-row r at x s = alike-set _ refl (alike-setLow _ refl (alike-setLow _ refl (alike-setLow _ refl s)))
 
 alike-node-row : (n r : ℕ) {a b : List ℕ} → n < 16 → Alike a b → Alike (withNodeRow n r a) (withNodeRow n r b)
 unfolding withNodeRow

@@ -15,8 +15,8 @@ use Rattle.records.specs.declared.record.RxFrame.{RxFrame}
 use Rattle.records.specs.declared.record.Record.{Record}
 use Rattle.records.specs.declared.record.Record.the-variants.{Head, Node, Tx, Rx, Signal, Destination, Broken}
 use Rattle.plan.specs.Rows.{rowsFrom, txFrames, nodesIn, cansIn}
-use Rattle.area.specs.Layout.{orderByte, nodeCountByte, canCountByte, txCountBytes, rxCountBytes, nodesStart, txPlace}
-use Rattle.opening.specs.Opened.{nextTx, nextRx, withTxTimer, withPayload, withFrame, withTx}
+use Rattle.area.specs.Layout.{orderByte, nodeCountByte, canCountByte, txCountBytes, rxCountBytes, nodesStart}
+use Rattle.opening.specs.Opened.{nextTx, nextRx, withTxTimer, withPayload, withFrame, withTxPlace, withTx}
 use Rattle.opening.specs.Opened.{withRxTimer, withRow, withNodeRow, withRequest, withRx, withCan, withNode, withRecord, withRecords}
 use Rattle.opening.proofs.Kept.{same, same-set, same-node, same-tx, same-rx}
 
@@ -43,7 +43,7 @@ rx-length at x a = same-rx (λ j. ⊥) (λ j low high p. p) at x a (λ p. p) (λ
 tx-next : (at : ℕ) (x : TxFrame) (a : List ℕ) → rxCountBytes + 2 ≤ length a → lowAt (withTx at x a) txCountBytes ≡ nextTx a + 1
 unfolding withTx
 tx-next at x a l =
-    let b = withFrame (x .node % 16) (withPayload (nextTx a) (x .payload) (withTxTimer (nextTx a) x (setLow a (txPlace (nextTx a)) at))) in
+    let b = withFrame (x .node % 16) (withPayload (nextTx a) (x .payload) (withTxTimer (nextTx a) x (withTxPlace (nextTx a) at x a))) in
     let n = simp length-set at (tx-length at x a) in
     low-same b txCountBytes (nextTx a + 1) (omega arith) (omega arith)
 

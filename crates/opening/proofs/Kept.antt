@@ -14,7 +14,7 @@ use Rattle.records.specs.declared.record.RxFrame.{RxFrame}
 use Rattle.records.specs.declared.record.Record.{Record}
 use Rattle.records.specs.declared.record.Record.the-variants.{Head, Node, Tx, Rx, Signal, Destination, Broken}
 use Rattle.area.specs.Layout.{orderByte, nodeCountByte, canCountByte, txCountBytes, rxCountBytes, nodesStart, planStart, queue}
-use Rattle.opening.specs.Opened.{cleared, zeroed, laid, withTxTimer, withPayload, withFrame, withTx, withRxTimer, withRow, withNodeRow}
+use Rattle.opening.specs.Opened.{cleared, zeroed, laid, withTxTimer, withPayload, withFrame, withTxPlace, withTx, withRxTimer, withKey, withRow, withNodeRow}
 use Rattle.opening.specs.Opened.{withRequest, withRx, withCan, withNode, withRecord, withRecords, ringsBefore, withRings, withFullness}
 
 pub record Same (P : ℕ → Type 0) (a b : List ℕ) : Type 0 where
@@ -91,11 +91,15 @@ module _ (P : ℕ → Type 0) (tables : (j : ℕ) → nodesStart ≤ j → j < p
   unfolding withFrame
   same-frame n a h = put-low _ _ (omega arith) (omega arith) (same P a)
 
+  same-tx-place : (t at : ℕ) (x : TxFrame) (a : List ℕ) → t < 256 → Same P a (withTxPlace t at x a)
+  unfolding withTxPlace
+  same-tx-place t at x a h = put _ _ (omega arith) (omega arith) (put-low _ _ (omega arith) (omega arith) (same P a))
+
   pub same-tx : (at : ℕ) (x : TxFrame) (a : List ℕ) → (P txCountBytes → ⊥) → (P (txCountBytes + 1) → ⊥) → Same P a (withTx at x a)
   unfolding withTx
   same-tx at x a low high =
       same-low P _ _ low high
-      (same-then P (put-low _ _ (omega arith) (omega arith) (same P a))
+      (same-then P (same-tx-place _ at x a (omega arith))
       (same-then P (same-tx-timer _ x _ (omega arith))
       (same-then P (same-payload _ (x .payload) _ (omega arith)) (same-frame _ _ (omega arith)))))
 
@@ -106,9 +110,10 @@ module _ (P : ℕ → Type 0) (tables : (j : ℕ) → nodesStart ≤ j → j < p
       (put _ _ (omega arith) (omega arith) (same P a))))
 
   same-row : (r at : ℕ) (x : RxFrame) (a : List ℕ) → r < 256 → Same P a (withRow r at x a)
-  unfolding withRow
+  unfolding withRow withKey
   same-row r at x a h =
-      put-low _ _ (omega arith) (omega arith) (put-low _ _ (omega arith) (omega arith) (put-low _ _ (omega arith) (omega arith) (same P a)))
+      put _ _ (omega arith) (omega arith)
+      (put-low _ _ (omega arith) (omega arith) (put-low _ _ (omega arith) (omega arith) (put-low _ _ (omega arith) (omega arith) (same P a))))
 
   same-node-row : (n r : ℕ) (a : List ℕ) → n < 16 → Same P a (withNodeRow n r a)
   unfolding withNodeRow

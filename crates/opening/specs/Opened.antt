@@ -9,17 +9,21 @@ use Rattle.base.specs.Pick.{pick}
 use Rattle.base.specs.Numbers.{byteAt, lowAt, setLow}
 use Rattle.bits.specs.Owners.{owners}
 use Rattle.clock.specs.Counter.{maskOf}
+use Rattle.records.specs.declared.record.Id.{Id}
+use Rattle.records.specs.declared.record.Id.the-variants.{Standard, Extended}
 use Rattle.records.specs.declared.record.Eight.{Eight}
 use Rattle.records.specs.declared.record.TxFrame.{TxFrame}
 use Rattle.records.specs.declared.record.RxFrame.{RxFrame}
 use Rattle.records.specs.declared.record.Record.{Record}
+use Rattle.records.specs.Ids.{behindId, keyOf}
 use Rattle.records.specs.Views.{onHead, onNode, onTx, onRx}
 use Rattle.records.specs.Records.{sizeOf, recordsAt, records}
 use Rattle.plan.specs.declared.verdict.Verdict.{Verdict}
 use Rattle.plan.specs.declared.verdict.Verdict.the-variants as verdict
 use Rattle.plan.specs.Check.{setsOf}
-use Rattle.area.specs.Layout.{areaLength, orderByte, planLengthBytes, nodeCountByte, canCountByte, txCountBytes, rxCountBytes, planStart, longEnough}
-use Rattle.area.specs.Layout.{node, queue, txReload, rxReload, txTimer, rxTimer, long, full, txPlace, key, rxPlace, payload, txMask, rxMask}
+use Rattle.area.specs.Layout.{areaLength, orderByte, planLengthBytes, nodeCountByte, canCountByte, txCountBytes, rxCountBytes, planStart}
+use Rattle.area.specs.Layout.{extendedHome, requestsStart, longEnough}
+use Rattle.area.specs.Layout.{node, queue, txReload, rxReload, txTimer, rxTimer, long, full, txPlace, key, rxPlace, home, payload, txMask, rxMask}
 use Rattle.area.specs.Layout.{canCount}
 use Rattle.area.specs.Queue.{roomOf}
 use Rattle.answers.specs.declared.Refusal.the-variants.{Plan, ShortArea}
@@ -56,6 +60,11 @@ nextTx a = lowAt a txCountBytes % 256
 abbrev pub nextRx : List ℕ → ℕ
 nextRx a = lowAt a rxCountBytes % 256
 
+-- a frame's home: its node, and whether its ID has 29 bits
+unfoldable pub homeOf : ℕ → Id → ℕ
+homeOf node (Standard n) = node % 16
+homeOf node (Extended n) = node % 16 + extendedHome
+
 -- timer t of Tx frames: reload, initial value, mask
 unfoldable pub withTxTimer : ℕ → TxFrame → List ℕ → List ℕ
 withTxTimer t x a = set (set (set a (txReload t) (x .reload)) (txTimer t) (x .initial)) (txMask t) (maskOf (x .prescaler))
@@ -82,19 +91,28 @@ withPayload t b a =
 unfoldable pub withFrame : ℕ → List ℕ → List ℕ
 withFrame n a = setLow a (queue n + 2) (lowAt a (queue n + 2) + 1)
 
+-- where the fields behind the ID begin in the plan, and the frame's home
+unfoldable pub withTxPlace : ℕ → ℕ → TxFrame → List ℕ → List ℕ
+withTxPlace t at x a = set (setLow a (txPlace t) (at + behindId (x .id))) (home t) (homeOf (x .node) (x .id))
+
 unfoldable pub withTx : ℕ → TxFrame → List ℕ → List ℕ
 withTx at x a =
     setLow
-    (withFrame (x .node % 16) (withPayload (nextTx a) (x .payload) (withTxTimer (nextTx a) x (setLow a (txPlace (nextTx a)) at))))
+    (withFrame (x .node % 16) (withPayload (nextTx a) (x .payload) (withTxTimer (nextTx a) x (withTxPlace (nextTx a) at x a))))
     txCountBytes (nextTx a + 1)
 
 unfoldable pub withRxTimer : ℕ → RxFrame → List ℕ → List ℕ
 withRxTimer r x a =
     set (set (set (set a (rxReload r) (x .reload)) (rxTimer r) (x .initial)) (rxMask r) (maskOf (x .prescaler))) (long r) (x .long)
 
--- the row: its key in four bytes, the low ones first, and its place
+-- the key of a row, in four bytes, the low ones first
+unfoldable pub withKey : ℕ → ℕ → List ℕ → List ℕ
+withKey r number a = setLow (setLow a (key r) (number % 65536)) (key r + 2) (number / 65536)
+
+-- the row: its key, the place of the fields behind its ID, and its home
 unfoldable pub withRow : ℕ → ℕ → RxFrame → List ℕ → List ℕ
-withRow r at x a = setLow (setLow (setLow a (key r) (x .id % 65536)) (key r + 2) (x .id / 65536)) (rxPlace r) at
+withRow r at x a =
+    set (setLow (withKey r (keyOf (x .id)) a) (rxPlace r) (at + behindId (x .id))) (home (requestsStart + r)) (homeOf (x .node) (x .id))
 
 -- one row more of node n, which is its first if it has none yet
 unfoldable pub withNodeRow : ℕ → ℕ → List ℕ → List ℕ

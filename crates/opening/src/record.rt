@@ -5,6 +5,7 @@ use area::layout;
 use area::layout::CAN_COUNT_BYTE;
 use area::layout::NODE_COUNT_BYTE;
 use area::layout::ORDER_BYTE;
+use area::layout::REQUESTS_START;
 use area::layout::RX_COUNT_BYTES;
 use area::layout::TX_COUNT_BYTES;
 use base::low_at;
@@ -13,6 +14,7 @@ use base::wide;
 use clock::counter::mask;
 use records::reader::read_record;
 use records::record::Eight;
+use records::record::Id;
 use records::record::NodeType;
 use records::record::Record;
 use records::record::RxFrame;
@@ -20,14 +22,46 @@ use records::record::RxNumber;
 use records::record::TxFrame;
 use records::record::TxNumber;
 ghost use mathlib.Core.Path.{_≡_};
-ghost use Prim.Native.Nat.{_+_, _<_};
+ghost use Prim.Native.Nat.{_+_, _^_, _<_};
 ghost use lib.Dec.{eqb};
 ghost use Rattle.base.specs.Pick.{pick};
 ghost use Rattle.base.specs.Numbers.{setLow};
 ghost use Rattle.records.specs.Records.{records};
-ghost use Rattle.area.specs.Layout.{LongEnough, node};
-ghost use Rattle.opening.specs.Opened.{withTxTimer, withPayload, withFrame, withTx, withRxTimer, withRow, withNodeRow, withRequest, withRx};
+ghost use lib.ListN.{set};
+ghost use Rattle.area.specs.Layout.{waiterRange, LongEnough, node, home};
+ghost use Rattle.opening.specs.Opened.{homeOf, withTxTimer, withPayload, withFrame, withTxPlace, withTx, withRxTimer, withKey, withRow, withNodeRow, withRequest, withRx};
 ghost use Rattle.opening.specs.Opened.{withNode, withRecord, withRecords};
+
+// A frame's home: its node, and whether its ID has 29 bits.
+fn home_of(node: u8, id: Id) -> u8
+    ensures { λ h. ⌜ h ≡ homeOf node id ⌝ }
+{
+    match id {
+        Id::Standard(_) => node % 16,
+        Id::Extended(_) => node % 16 + layout::EXTENDED_HOME,
+    }
+}
+
+// The home of what has number `k` in a queue.
+fn with_home(area: &mut [u8], k: usize, node: u8, id: Id)
+    requires { ⌜ (k < waiterRange) × LongEnough (now area) ⌝ }
+    ensures { λ u. ⌜ now (area .exit) ≡ set (now (area .entry)) (home k) (homeOf node id) ⌝ }
+{
+    let at = layout::home(k);
+    let home = home_of(node, id);
+    area[at] = home;
+}
+
+// Where the fields behind the ID of Tx frame `t` begin, whose record stands at `at`, and its home.
+fn with_tx_place(area: &mut [u8], t: TxNumber, at: usize, x: TxFrame)
+    requires { ⌜ (t .0 < 256) × (at < 2 ^ 63) × LongEnough (now area) ⌝ }
+    ensures { λ r. ⌜ now (area .exit) ≡ withTxPlace (t .0) at x (now (area .entry)) ⌝ }
+{
+    let id = x.id;
+    let place = layout::tx_place(t);
+    put_low(area, place, at + id.behind());
+    with_home(area, t.0, x.node, id);
+}
 
 // The timer of Tx frame `t`: its reload and initial values, and the mask of its prescaler.
 fn with_tx_timer(area: &mut [u8], t: TxNumber, x: TxFrame)
@@ -71,14 +105,14 @@ fn with_frame(area: &mut [u8], n: usize)
 
 // A Tx frame, whose record stands at `at`.
 fn with_tx(area: &mut [u8], at: usize, x: TxFrame)
-    requires { ⌜ LongEnough (now area) ⌝ }
+    requires { ⌜ (at < 2 ^ 63) × LongEnough (now area) ⌝ }
     ensures { λ r. ⌜ now (area .exit) ≡ withTx at x (now (area .entry)) ⌝ }
 {
     let number = low_at(area, TX_COUNT_BYTES) % 256;
     let t = TxNumber(number);
     let n = wide(x.node % 16);
     let payload = x.payload;
-    put_low(area, layout::tx_place(t), at);
+    with_tx_place(area, t, at, x);
     with_tx_timer(area, t, x);
     with_payload(area, t, payload);
     with_frame(area, n);
@@ -101,16 +135,26 @@ fn with_rx_timer(area: &mut [u8], r: RxNumber, x: RxFrame)
     area[long] = x.long;
 }
 
-// Row `r`: its key, and the place of its record.
-fn with_row(area: &mut [u8], r: RxNumber, at: usize, x: RxFrame)
+// The key of row `r`.
+fn with_key(area: &mut [u8], r: RxNumber, number: usize)
     requires { ⌜ (r .0 < 256) × LongEnough (now area) ⌝ }
-    ensures { λ u. ⌜ now (area .exit) ≡ withRow (r .0) at x (now (area .entry)) ⌝ }
+    ensures { λ u. ⌜ now (area .exit) ≡ withKey (r .0) number (now (area .entry)) ⌝ }
 {
     let key = layout::key(r);
+    put_low(area, key, number % 65536);
+    put_low(area, key + 2, number / 65536);
+}
+
+// Row `r`, whose record stands at `at`: its key, the place of the fields behind its ID, and its home.
+fn with_row(area: &mut [u8], r: RxNumber, at: usize, x: RxFrame)
+    requires { ⌜ (r .0 < 256) × (at < 2 ^ 63) × LongEnough (now area) ⌝ }
+    ensures { λ u. ⌜ now (area .exit) ≡ withRow (r .0) at x (now (area .entry)) ⌝ }
+{
+    let id = x.id;
     let place = layout::rx_place(r);
-    put_low(area, key, x.id % 65536);
-    put_low(area, key + 2, x.id / 65536);
-    put_low(area, place, at);
+    with_key(area, r, id.key());
+    put_low(area, place, at + id.behind());
+    with_home(area, REQUESTS_START + r.0, x.node, id);
 }
 
 // The first row of node `n` is number `r`, if it had none.
@@ -146,7 +190,7 @@ fn with_request(area: &mut [u8], n: usize)
 
 // An Rx frame, whose record stands at `at`.
 fn with_rx(area: &mut [u8], at: usize, x: RxFrame)
-    requires { ⌜ LongEnough (now area) ⌝ }
+    requires { ⌜ (at < 2 ^ 63) × LongEnough (now area) ⌝ }
     ensures { λ u. ⌜ now (area .exit) ≡ withRx at x (now (area .entry)) ⌝ }
 {
     let number = low_at(area, RX_COUNT_BYTES) % 256;
@@ -172,7 +216,7 @@ fn with_node(area: &mut [u8], of: u8)
 
 // The record that stands at `at`.
 fn with_record(area: &mut [u8], at: usize, r: Record)
-    requires { ⌜ LongEnough (now area) ⌝ }
+    requires { ⌜ (at < 2 ^ 63) × LongEnough (now area) ⌝ }
     ensures { λ u. ⌜ now (area .exit) ≡ withRecord at r (now (area .entry)) ⌝ }
 {
     match r {

@@ -2,6 +2,8 @@
 use Prim.Native.Nat.{ℕ, zero, suc, _+_, _-_, _%_}
 use mathlib.Core.List.{List, [], _++_}
 use lib.ListN.{length, replicate}
+use Rattle.records.specs.declared.record.Id.{Id}
+use Rattle.records.specs.Ids.{behindId}
 use Rattle.plan.specs.Check.{checkPlan}
 use Rattle.plan.specs.Shortest.{shortestArea}
 use Rattle.answers.specs.declared.Opened.{Opened}
@@ -20,10 +22,10 @@ use Rattle.lines.specs.Lines.{planLine, rxLine, responseLine, silenceLine, tick
 
 -- ---- one event on an area: the line that it writes, and the area that it leaves
 
--- an ID is two bytes
-unfoldable pub receivedText : List ℕ → ℕ → ℕ → List ℕ → List ℕ
-receivedText a node id payload = rxLine (receivedAnswer a node (id % 65536) payload)
+unfoldable pub receivedText : List ℕ → ℕ → Id → List ℕ → List ℕ
+receivedText a node id payload = rxLine (receivedAnswer a node id payload)
 
+-- the ID of a response is two bytes
 unfoldable pub respondedText : List ℕ → ℕ → ℕ → List ℕ → ℕ → List ℕ
 respondedText a node id payload sum = responseLine (respondedAnswer a node (id % 65536) payload sum)
 
@@ -41,26 +43,26 @@ unfoldable pub takenText : List ℕ → ℕ → List ℕ
 takenText a node = takeLine (takenAnswer a node) (takenPayload (takenArea a node) (takenAnswer a node))
 
 unfoldable pub eventText : Event → List ℕ → ℕ → ℕ → List ℕ → List ℕ
-eventText (Reception node id size) input at rx a = receivedText a node id (payloadAt input at)
+eventText (Reception node id size) input at rx a = receivedText a node id (payloadAt input (at + behindId id))
 eventText Tick input at rx a = tickedText a rx
 eventText (Take node) input at rx a = takenText a node
-eventText (Response node id size sum) input at rx a = respondedText a node id (payloadAt input at) sum
+eventText (Response node id size sum) input at rx a = respondedText a node id (payloadAt input (at + 4)) sum
 eventText (NoResponse node id) input at rx a = silentText a node id
 eventText Bad input at rx a = badLine
 eventText End input at rx a = []
 
 unfoldable pub eventArea : Event → List ℕ → ℕ → ℕ → List ℕ → List ℕ
-eventArea (Reception node id size) input at rx a = receivedArea a node (id % 65536) (payloadAt input at)
+eventArea (Reception node id size) input at rx a = receivedArea a node id (payloadAt input (at + behindId id))
 eventArea Tick input at rx a = tickedArea (tickAnswer a (fresh rx)) a
 eventArea (Take node) input at rx a = takenArea a node
-eventArea (Response node id size sum) input at rx a = respondedArea a node (id % 65536) (payloadAt input at) sum
+eventArea (Response node id size sum) input at rx a = respondedArea a node (id % 65536) (payloadAt input (at + 4)) sum
 eventArea (NoResponse node id) input at rx a = silentArea a node (id % 65536)
 eventArea Bad input at rx a = a
 eventArea End input at rx a = a
 
 -- where the next event begins; "A cut or unknown event record prints `input bad` and ends"
 unfoldable pub eventNext : Event → List ℕ → ℕ → ℕ
-eventNext (Reception node id size) input at = at + 13
+eventNext (Reception node id size) input at = at + behindId id + 9
 eventNext Tick input at = at + 1
 eventNext (Take node) input at = at + 2
 eventNext (Response node id size sum) input at = at + 14

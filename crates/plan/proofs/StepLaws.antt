@@ -22,7 +22,7 @@ use Rattle.plan.specs.declared.verdict.Reason.the-variants.{Place, Count
 use Rattle.plan.specs.declared.progress.Progress.{Progress}
 use Rattle.plan.specs.declared.progress.Next.{Next}
 use Rattle.plan.specs.declared.progress.Next.the-variants.{Go, Refuse}
-use Rattle.plan.specs.Progress.{keyOf, after}
+use Rattle.plan.specs.Progress.{rowKey, after}
 use Rattle.plan.specs.Tests.{mayStand, canFirst, hasRoom, txInRange, rxInRange, inRange, frameFits, fitsNode, rises, inData, isFree}
 use Rattle.plan.specs.Tests.{indicatorInData, indicatorIsFree}
 use Rattle.plan.specs.declared.claim.Claimed.{Claimed}
@@ -105,7 +105,7 @@ module _ (p : Progress) (sizes sets : List ℕ) where
       (x : RxFrame)
       → Tried (p .number) (ltb 0 (p .stage)) (ltb (p .counts .rx) mostRx)
       (rxInRange (p .counts .nodes) x && frameFits (p .counts .can) (x .node) (x .id) (x .size))
-      (need (leb (p .row .floor) (keyOf x)) Order (p .number)
+      (need (leb (p .row .floor) (rowKey x)) Order (p .number)
       (Go (after p (Rx x)))) (placed p sizes sets (Rx x))
   unfolding placed need pick mayStand canFirst hasRoom inRange fitsNode rises inData isFree indicatorInData indicatorIsFree
   rx-tests x =
@@ -113,7 +113,7 @@ module _ (p : Progress) (sizes sets : List ℕ) where
         same =
             ap (λ (rest : Next). need (ltb 0 (p .stage)) Place (p .number) (need (ltb (p .counts .rx) mostRx) Count (p .number) rest))
             (need-both (rxInRange (p .counts .nodes) x) (frameFits (p .counts .can) (x .node) (x .id) (x .size)) Range (p .number)
-            (need (leb (p .row .floor) (keyOf x)) Order (p .number) (Go (after p (Rx x)))));
+            (need (leb (p .row .floor) (rowKey x)) Order (p .number) (Go (after p (Rx x)))));
       }
 
   pub signal-tests :

@@ -4,14 +4,17 @@ use mathlib.Core.Bool.{Bool, true, false, _&&_, false≢true}
 use Prim.Native.Nat.{ℕ, _≤_, _<_}
 use native.Mathlib.Omega.{arith}
 use borrow.Author.Tests.{ltb-true, leb-true, lt-ltb}
+use Rattle.records.specs.declared.record.Id.{Id}
+use Rattle.records.specs.declared.record.Id.the-variants.{Standard, Extended}
 use Rattle.records.specs.declared.record.Eight.{Eight}
 use Rattle.records.specs.declared.record.TxFrame.{TxFrame}
 use Rattle.records.specs.declared.record.RxFrame.{RxFrame}
 use Rattle.records.specs.declared.record.Fault.{Fault}
 use Rattle.records.specs.declared.record.Fault.the-variants.{End, BadKind, Cut}
 use Rattle.records.specs.declared.record.Record.the-variants.{Broken}
-use Rattle.plan.specs.Limits.{idRange}
-use Rattle.plan.specs.Tests.{isKind, isWhole, isPrescaler, zeroPast, txInRange, rxInRange}
+use Rattle.records.specs.Ids.{Possible}
+use Rattle.plan.specs.Limits.{idRange, extendedIdRange}
+use Rattle.plan.specs.Tests.{isKind, isWhole, isPrescaler, zeroPast, idInRange, txInRange, rxInRange}
 
 -- two tests that are passed together are passed
 pub and-both : (x y : Bool) → (x && y) ≡ true → (x ≡ true) × (y ≡ true)
@@ -40,9 +43,14 @@ no-fault End known whole = false≢true known
 no-fault BadKind known whole = false≢true known
 no-fault (Cut kind) known whole = false≢true whole
 
+pub id-possible : (id : Id) → idInRange id ≡ true → Possible id
+unfolding idInRange Possible
+id-possible (Standard n) e = omega (arith, ltb-true n idRange e)
+id-possible (Extended n) e = omega (arith, ltb-true n extendedIdRange e)
+
 pub record TxRanges (nodes : ℕ) (x : TxFrame) : Type 0 where
   pub node : x .node < nodes
-  pub id : x .id < idRange
+  pub id : Possible (x .id)
   pub size : x .size ≤ 8
   pub prescaler : isPrescaler (x .prescaler) ≡ true
   pub flags : x .flags ≤ 3
@@ -58,7 +66,7 @@ tx-ranges nodes x e =
     let f = and-both _ _ (d .0) in
     record {
       node = ltb-true _ _ (f .0);
-      id = ltb-true _ _ (f .1);
+      id = id-possible _ (f .1);
       size = leb-true _ _ (d .1);
       prescaler = c .1;
       flags = leb-true _ _ (b .1);
@@ -67,7 +75,7 @@ tx-ranges nodes x e =
 
 pub record RxRanges (nodes : ℕ) (x : RxFrame) : Type 0 where
   pub node : x .node < nodes
-  pub id : x .id < idRange
+  pub id : Possible (x .id)
   pub size : x .size ≤ 8
   pub prescaler : isPrescaler (x .prescaler) ≡ true
   pub enable : x .enable ≤ 1
@@ -85,7 +93,7 @@ rx-ranges nodes x e =
     let g = and-both _ _ (f .0) in
     record {
       node = ltb-true _ _ (g .0);
-      id = ltb-true _ _ (g .1);
+      id = id-possible _ (g .1);
       size = leb-true _ _ (f .1);
       prescaler = d .1;
       enable = leb-true _ _ (c .1);

@@ -26,6 +26,10 @@ mostOfSignal = 15
 abbrev pub idRange : ℕ
 idRange = 2048
 
+-- "a four-byte ID, 0 to 536,870,911" (document 02, Ticket 6)
+abbrev pub extendedIdRange : ℕ
+extendedIdRange = 536870912
+
 -- "IDs there run 0 to 59" (document 02, Ticket 2), on a LIN node
 abbrev pub linIdRange : ℕ
 linIdRange = 60

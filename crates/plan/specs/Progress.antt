@@ -5,15 +5,18 @@ use Rattle.base.specs.Pick.{pick}
 use Rattle.records.specs.declared.record.RxFrame.{RxFrame}
 use Rattle.records.specs.declared.record.Record.{Record}
 use Rattle.records.specs.Views.{onNode, onTx, onRx, onSignal, onDestination, inRow}
+use Rattle.records.specs.Ids.{keyOf}
 use Rattle.records.specs.Kinds.{signalStage, destinationStage, stageOf}
-use Rattle.plan.specs.Limits.{idRange}
 use Rattle.plan.specs.declared.progress.Counts.{Counts}
 use Rattle.plan.specs.declared.progress.RowSoFar.{RowSoFar}
 use Rattle.plan.specs.declared.progress.Progress.{Progress}
 
--- (node, ID) as one number, which rises with the node and then with the ID
-unfoldable pub keyOf : RxFrame → ℕ
-keyOf frame = frame .node * idRange + frame .id
+-- (node, ID) as one number, which rises with the node and then with the ID: the key of an ID is below this
+abbrev pub keyRange : ℕ
+keyRange = 4294967296
+
+unfoldable pub rowKey : RxFrame → ℕ
+rowKey frame = frame .node * keyRange + keyOf (frame .id)
 
 -- type 0 is a CAN node
 unfoldable pub counted : Counts → Record → Counts
@@ -32,7 +35,7 @@ unfoldable pub rowAfter : ℕ → RowSoFar → Record → RowSoFar
 rowAfter n row r =
     inRow row
     (λ frame. record {
-      floor = keyOf frame + 1;
+      floor = rowKey frame + 1;
       room = 8 * frame .size;
       signals = 0;
       size = 0;

@@ -5,6 +5,8 @@ use mathlib.Core.List.{List}
 use lib.Dec.{leb, ltb, eqb}
 use lib.ListN.{getD}
 use Rattle.bits.specs.Owners.{owned, clash}
+use Rattle.records.specs.declared.record.Id.{Id}
+use Rattle.records.specs.declared.record.Id.the-variants.{Standard, Extended}
 use Rattle.records.specs.declared.record.Eight.{Eight}
 use Rattle.records.specs.declared.record.TxFrame.{TxFrame}
 use Rattle.records.specs.declared.record.RxFrame.{RxFrame}
@@ -12,16 +14,16 @@ use Rattle.records.specs.declared.record.Record.{Record}
 use Rattle.records.specs.declared.record.Record.the-variants.{Head, Node, Tx, Rx, Signal, Destination, Broken}
 use Rattle.records.specs.Views.{byFault, onNode, onTx, onRx, onSignal, onDestination, onBroken}
 use Rattle.records.specs.Kinds.{nodeStage, txStage, rxStage, signalStage}
-use Rattle.plan.specs.Limits.{mostNodes, mostTx, mostRx, mostSignals, mostInFrame, mostDestinations, mostOfSignal, idRange, linIdRange}
+use Rattle.plan.specs.Limits.{mostNodes, mostTx, mostRx, mostSignals, mostInFrame, mostDestinations, mostOfSignal, idRange, extendedIdRange, linIdRange}
 use Rattle.plan.specs.declared.progress.Counts.{Counts}
 use Rattle.plan.specs.declared.progress.RowSoFar.{RowSoFar}
-use Rattle.plan.specs.Progress.{keyOf}
+use Rattle.plan.specs.Progress.{rowKey}
 
 -- 9, first half: "an enabled indicator's Rx frame is not followed at once by a signal and a destination (judged by kind byte)"
 unfoldable pub followed : RowSoFar → ℕ → Bool
 followed row stage = eqb (row .awaits) 0 || eqb (row .awaits) stage
 
--- 2: "the kind is not 1–6"
+-- 2: "the kind is not 1–6"; "2 begins past the new kinds", which are 7 and 8 (document 02, Ticket 6)
 unfoldable pub isKind : Record → Bool
 isKind r = onBroken true (byFault false false (λ kind. true)) r
 
@@ -70,11 +72,16 @@ zeroPast size b =
     && (ltb 6 size || eqb (b .6) 0)
     && (ltb 7 size || eqb (b .7) 0)
 
+-- "ID 0–2047"; "a four-byte ID, 0 to 536,870,911" (document 02, Ticket 6)
+unfoldable pub idInRange : Id → Bool
+idInRange (Standard n) = ltb n idRange
+idInRange (Extended n) = ltb n extendedIdRange
+
 -- "node below the node count; ID 0–2047; size 0–8; prescaler 1, 2, 10 or 20; flags 0–3; payload bytes past the size zero"
 unfoldable pub txInRange : ℕ → TxFrame → Bool
 txInRange nodes x =
     ltb (x .node) nodes
-    && ltb (x .id) idRange
+    && idInRange (x .id)
     && leb (x .size) 8
     && isPrescaler (x .prescaler)
     && leb (x .flags) 3
@@ -84,7 +91,7 @@ txInRange nodes x =
 unfoldable pub rxInRange : ℕ → RxFrame → Bool
 rxInRange nodes x =
     ltb (x .node) nodes
-    && ltb (x .id) idRange
+    && idInRange (x .id)
     && leb (x .size) 8
     && isPrescaler (x .prescaler)
     && leb (x .enable) 1
@@ -101,9 +108,14 @@ inRange nodes (Signal body) = leb (body .position) 63 && ltb 0 (body .size) && l
 inRange nodes (Destination body) = leb (body .position) 63
 inRange nodes (Broken fault) = true
 
--- 5: "IDs there run 0 to 59, sizes 1 to 8" (document 02, Ticket 2), of a node that is no CAN node. `can` is how many nodes are: the others follow them.
-unfoldable pub frameFits : ℕ → ℕ → ℕ → ℕ → Bool
-frameFits can node id size = ltb node can || (ltb id linIdRange && ltb 0 size)
+-- 5: "IDs there run 0 to 59" (document 02, Ticket 2); "5 for these on a LIN node" (Ticket 6): for frames with a 29-bit ID
+unfoldable pub isLinId : Id → Bool
+isLinId (Standard n) = ltb n linIdRange
+isLinId (Extended n) = false
+
+-- and "sizes 1 to 8", of a node that is no CAN node. `can` is how many nodes are: the others follow them.
+unfoldable pub frameFits : ℕ → ℕ → Id → ℕ → Bool
+frameFits can node id size = ltb node can || (isLinId id && ltb 0 size)
 
 -- of a Tx or Rx frame, beside the ranges that all have
 unfoldable pub fitsNode : Counts → Record → Bool
@@ -111,9 +123,9 @@ fitsNode c r =
     onTx (onRx true (λ frame. frameFits (c .can) (frame .node) (frame .id) (frame .size)) r)
     (λ frame. frameFits (c .can) (frame .node) (frame .id) (frame .size)) r
 
--- 6: "an Rx frame's (node, ID) is not above that of the one before"
+-- 6: "an Rx frame's (node, ID) is not above that of the one before"; "6 uses the new order" (document 02, Ticket 6)
 unfoldable pub rises : RowSoFar → Record → Bool
-rises row r = onRx true (λ frame. leb (row .floor) (keyOf frame)) r
+rises row r = onRx true (λ frame. leb (row .floor) (rowKey frame)) r
 
 -- 7: "a signal or destination passes its frame's data, or the Tx frame does not exist". The sizes are those of the Tx frames.
 unfoldable pub inData : Counts → RowSoFar → List ℕ → Record → Bool

@@ -13,7 +13,12 @@ pub const MOST_DESTINATIONS: usize = 2048;
 // of one signal
 pub const MOST_OF_SIGNAL: usize = 15;
 
-// An ID is below it.
+// An 11-bit ID is below it,
 pub const ID_RANGE: usize = 2048;
-// and on a LIN node below this
+// a 29-bit ID below this,
+pub const EXTENDED_ID_RANGE: usize = 536870912;
+// and one on a LIN node below this
 pub const LIN_ID_RANGE: usize = 60;
+
+// The key of an ID is below it.
+pub const KEY_RANGE: usize = 4294967296;

@@ -1,7 +1,7 @@
 // What each kind of record does to the check: one function for each kind, with its tests in document 01's order.
 use crate::claim::Claimed;
 use crate::claim::claim;
-use crate::limits::ID_RANGE;
+use crate::limits::KEY_RANGE;
 use crate::limits::MOST_DESTINATIONS;
 use crate::limits::MOST_IN_FRAME;
 use crate::limits::MOST_NODES;
@@ -121,7 +121,8 @@ pub fn tx_step(p: Progress, x: TxFrame, sizes: &mut [u8]) -> Next
     if !has_room {
         return refuse(p, Reason::Count);
     }
-    let fits = tests::frame_fits(c.can, x.node, x.id, x.size);
+    let id = x.id;
+    let fits = tests::frame_fits(c.can, x.node, id, x.size);
     let in_range = tests::tx_in_range(c.nodes, x) & fits;
     if !in_range {
         return refuse(p, Reason::Range);
@@ -153,12 +154,13 @@ pub fn rx_step(p: Progress, x: RxFrame) -> Next
     if !has_room {
         return refuse(p, Reason::Count);
     }
-    let fits = tests::frame_fits(c.can, x.node, x.id, x.size);
+    let id = x.id;
+    let fits = tests::frame_fits(c.can, x.node, id, x.size);
     let in_range = tests::rx_in_range(c.nodes, x) & fits;
     if !in_range {
         return refuse(p, Reason::Range);
     }
-    let key = wide(x.node) * ID_RANGE + x.id;
+    let key = wide(x.node) * KEY_RANGE + id.key();
     let rises = old.floor <= key;
     if !rises {
         return refuse(p, Reason::Order);

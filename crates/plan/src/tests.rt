@@ -1,9 +1,11 @@
 // Tests of a frame's fields, and what an indicator awaits.
+use crate::limits::EXTENDED_ID_RANGE;
 use crate::limits::ID_RANGE;
 use crate::limits::LIN_ID_RANGE;
 use records::decode::DESTINATION_STAGE;
 use records::decode::SIGNAL_STAGE;
 use records::record::Eight;
+use records::record::Id;
 use records::record::RxFrame;
 use records::record::TxFrame;
 ghost use mathlib.Core.Path.{_≡_};
@@ -12,7 +14,7 @@ ghost use lib.Dec.{eqb};
 ghost use Rattle.base.specs.Pick.{pick};
 ghost use Rattle.records.specs.Kinds.{signalStage, destinationStage};
 ghost use Rattle.plan.specs.Limits.{mostNodes};
-ghost use Rattle.plan.specs.Tests.{isPrescaler, zeroPast, txInRange, rxInRange, frameFits};
+ghost use Rattle.plan.specs.Tests.{isPrescaler, zeroPast, idInRange, txInRange, rxInRange, isLinId, frameFits};
 
 fn is_prescaler(p: u8) -> bool
     ensures { λ r. ⌜ r ≡ isPrescaler p ⌝ }
@@ -37,6 +39,15 @@ fn zero_past(size: u8, b: Eight) -> bool
         & ((7 < size) | (b.7 == 0))
 }
 
+fn id_in_range(id: Id) -> bool
+    ensures { λ r. ⌜ r ≡ idInRange id ⌝ }
+{
+    match id {
+        Id::Standard(n) => n < ID_RANGE,
+        Id::Extended(n) => n < EXTENDED_ID_RANGE,
+    }
+}
+
 pub fn tx_in_range(nodes: usize, x: TxFrame) -> bool
     ensures { λ r. ⌜ r ≡ txInRange nodes x ⌝ }
 {
@@ -44,7 +55,9 @@ pub fn tx_in_range(nodes: usize, x: TxFrame) -> bool
     let prescaled = is_prescaler(x.prescaler);
     let payload = x.payload;
     let zero = zero_past(x.size, payload);
-    (node < nodes) & (x.id < ID_RANGE) & (x.size <= 8) & prescaled & (x.flags <= 3) & zero
+    let id = x.id;
+    let identified = id_in_range(id);
+    (node < nodes) & identified & (x.size <= 8) & prescaled & (x.flags <= 3) & zero
 }
 
 pub fn rx_in_range(nodes: usize, x: RxFrame) -> bool
@@ -52,8 +65,10 @@ pub fn rx_in_range(nodes: usize, x: RxFrame) -> bool
 {
     let node = base::wide(x.node);
     let prescaled = is_prescaler(x.prescaler);
+    let id = x.id;
+    let identified = id_in_range(id);
     (node < nodes)
-        & (x.id < ID_RANGE)
+        & identified
         & (x.size <= 8)
         & prescaled
         & (x.enable <= 1)
@@ -61,12 +76,23 @@ pub fn rx_in_range(nodes: usize, x: RxFrame) -> bool
         & (x.long <= 15)
 }
 
-// On a LIN node, which follows the CAN nodes, the ID is below 60 and the size above 0.
-pub fn frame_fits(can: usize, node: u8, id: usize, size: u8) -> bool
+// An ID of a LIN node is below 60, and never of 29 bits.
+fn is_lin_id(id: Id) -> bool
+    ensures { λ r. ⌜ r ≡ isLinId id ⌝ }
+{
+    match id {
+        Id::Standard(n) => n < LIN_ID_RANGE,
+        Id::Extended(_) => false,
+    }
+}
+
+// On a LIN node, which follows the CAN nodes, the ID is one of LIN and the size above 0.
+pub fn frame_fits(can: usize, node: u8, id: Id, size: u8) -> bool
     ensures { λ r. ⌜ r ≡ frameFits can node id size ⌝ }
 {
     let on = base::wide(node);
-    (on < can) | ((id < LIN_ID_RANGE) & (0 < size))
+    let of_lin = is_lin_id(id);
+    (on < can) | (of_lin & (0 < size))
 }
 
 // How many CAN nodes there are with one more node, of this type.

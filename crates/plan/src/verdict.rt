@@ -4,7 +4,7 @@
 pub enum Reason {
     // 1: the input is empty, or the record runs past its end
     Short,
-    // 2: the kind is not 1 to 6
+    // 2: the kind is not 1 to 8
     Kind,
     // 3: the kind may not stand here
     Place,

@@ -9,6 +9,7 @@ use Rattle.base.specs.Pick.{pick}
 use Rattle.base.specs.Numbers.{byteAt}
 use Rattle.lin.specs.Identifier.{protectedOf}
 use Rattle.lin.specs.Checksum.{checksumOf}
+use Rattle.records.specs.declared.record.Id.the-variants.{Standard}
 use Rattle.records.specs.Nodes.{isLin}
 use Rattle.area.specs.Layout.{long, marked, order, nodeCount, typeOn, rxFrame, claims}
 use Rattle.area.specs.Claims.{accepted, allDone}
@@ -22,10 +23,10 @@ use Rattle.reception.specs.declared.lookup.Found.the-variants.{At, Nothing}
 use Rattle.reception.specs.Lookup.{lookedUp}
 use Rattle.ticking.specs.Tick.{expiredArea}
 
--- the Rx frame of a LIN node that has this ID. A plan has at most 256 rows; where an area full of garbage finds a later one, its number is brought into
--- range below
+-- the Rx frame of a LIN node that has this ID: no ID there has 29 bits. A plan has at most 256 rows; where an area full of garbage finds a later one, its
+-- number is brought into range below
 unfoldable pub polled : List ℕ → ℕ → ℕ → Found
-polled a n id = pick (isLin (typeOn a n)) (lookedUp a n id) (Nothing 0)
+polled a n id = pick (isLin (typeOn a n)) (lookedUp a n (Standard id)) (Nothing 0)
 
 -- ---- a response
 

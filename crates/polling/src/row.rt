@@ -2,6 +2,7 @@
 use area::header::node_type;
 use reception::lookup::Found;
 use reception::lookup::look_up;
+use records::record::Id;
 use records::record::NodeType;
 ghost use mathlib.Core.Path.{_≡_};
 ghost use Prim.Native.Nat.{_<_};
@@ -14,7 +15,7 @@ pub fn polled_row(area: &[u8], node: usize, id: u32) -> Found
     ensures { λ r. ⌜ r ≡ polled (now (area .entry)) node id ⌝ }
 {
     match node_type(area, node) {
-        NodeType::Lin => look_up(area, node, id),
+        NodeType::Lin => look_up(area, node, Id::Standard(id as usize)),
         NodeType::Can => Found::Nothing { place: 0 },
     }
 }

@@ -7,7 +7,8 @@ use native.Mathlib.Omega.{arith}
 use lib.ListN.{length, getD, drop, take as firstOf}
 use Rattle.base.specs.Numbers.{Bytes}
 use Rattle.base.specs.Pick.{pick}
-use Rattle.records.specs.Kinds.{formOf, lengthOf, eightAt, txAt, rxAt, fieldsAt, kindOf}
+use Rattle.records.specs.Ids.{behindId}
+use Rattle.records.specs.Kinds.{formOf, lengthOf, eightAt, txAt, rxAt, txRecord, rxRecord, fieldsAt, txKind, rxKind, kindOf}
 use Rattle.records.specs.Records.{recordAt, sizeOf, recordsFrom, recordsAt, records}
 use Rattle.records.specs.Nodes.{frame, request, typeOf, isLin}
 use Rattle.plan.specs.Rows.{claimsFrom, rowOf, rowsFrom, rowsOf, txFrames, txOf, nodesIn, typesIn}
@@ -39,7 +40,7 @@ pumps-bytes : Bytes pumps
 pumps-bytes = small-bytes pumps (unfold small pick in refl)
 
 node-one : (nodesIn (records pumps) ≡ 2) × (waitersOn pumps 1 ≡ 2)
-unfolding pick formOf lengthOf eightAt txAt rxAt fieldsAt recordAt kindOf sizeOf recordsFrom recordsAt records claimsFrom rowOf rowsFrom rowsOf txFrames
+unfolding pick formOf lengthOf eightAt txAt rxAt behindId txRecord rxRecord fieldsAt recordAt txKind rxKind kindOf sizeOf recordsFrom recordsAt records claimsFrom rowOf rowsFrom rowsOf txFrames
     txOf nodesIn typesIn typeOf isLin framesOn rowsOn
 node-one = (refl, refl)
 

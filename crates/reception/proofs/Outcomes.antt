@@ -6,6 +6,7 @@ use Prim.Native.Nat.{ℕ, _≤_, _<_}
 use lib.ListN.{length}
 use borrow.Author.Tests.{lt-ltb, le-ltb, le-leb, lt-leb}
 use Rattle.base.specs.Pick.{pick}
+use Rattle.records.specs.declared.record.Id.{Id}
 use Rattle.records.specs.Nodes.{isLin}
 use Rattle.area.specs.Layout.{marked, nodeCount, typeOn}
 use Rattle.answers.specs.declared.Refusal.the-variants.{NotOpen, NoNode, LongPayload, WrongCall}
@@ -15,7 +16,7 @@ use Rattle.reception.specs.declared.lookup.Found.{Found}
 use Rattle.reception.specs.Lookup.{lookedUp}
 use Rattle.reception.specs.Reception.{foundAnswer, foundArea, receivedAnswer, receivedArea}
 
-module _ (a : List ℕ) (n id : ℕ) (payload : List ℕ) where
+module _ (a : List ℕ) (n : ℕ) (id : Id) (payload : List ℕ) where
   abbrev pub Comes : Received → List ℕ → Type 0
   Comes x b = (x ≡ receivedAnswer a n id payload) × (b ≡ receivedArea a n id payload)
 

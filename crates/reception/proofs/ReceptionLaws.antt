@@ -13,6 +13,7 @@ use Rattle.base.specs.Pick.{pick}
 use Rattle.base.proofs.Picks.{cases}
 use Rattle.base.specs.Numbers.{byteAt}
 use Rattle.bits.proofs.PayloadLaws.{Bytes}
+use Rattle.records.specs.declared.record.Id.{Id}
 use Rattle.records.specs.declared.record.RxNumber.{RxNumber}
 use Rattle.records.specs.Nodes.{isLin}
 use Rattle.area.specs.Layout.{counterByte, planStart, rowBound}
@@ -41,7 +42,7 @@ unfolding pick
 pairs P true p q = p refl
 pairs P false p q = q refl
 
-module _ (a : List ℕ) (n id : ℕ) (payload : List ℕ) where
+module _ (a : List ℕ) (n : ℕ) (id : Id) (payload : List ℕ) where
   -- when a payload is accepted, and for which row
   pub record For (r : RxNumber) : Type 0 where
     pub opened : marked a ≡ true
@@ -128,7 +129,7 @@ module _ (a : List ℕ) (b : Bytes a) where
       counter-allDone (order a) (accepted r payload) (claims a r) _ (narrow-claims a r b)
       ∙ counter-restarted a r .at counterByte refl
 
-  module _ (n id : ℕ) (payload : List ℕ) where
+  module _ (n : ℕ) (id : Id) (payload : List ℕ) where
     abbrev after : List ℕ
     after = receivedArea a n id payload
 
@@ -163,4 +164,4 @@ module _ (a : List ℕ) (b : Bytes a) where
 
     -- bytes from the plan on are the caller's plan and what is past it
     pub past-received : (j : ℕ) → planStart ≤ j → byteAt after j ≡ byteAt a j
-    past-received j h = kept-received .at j (in-plan j h)
+    past-received j h = kept-received .at j (in-plan j (omega arith))

@@ -11,6 +11,8 @@ use lib.Dec.{ltb}
 use borrow.Author.Tests.{eq-eqb, ne-eqb, lt-ltb, le-ltb}
 use Rattle.base.specs.Pick.{pick}
 use Rattle.base.proofs.Picks.{by-eqb, both}
+use Rattle.records.specs.declared.record.Id.{Id}
+use Rattle.records.specs.Ids.{keyOf}
 use Rattle.area.specs.Layout.{rowBound, firstRow, rowCount, keyAt}
 use Rattle.records.specs.declared.record.RxNumber.{RxNumber}
 use Rattle.reception.specs.declared.lookup.Found.{Found}
@@ -125,14 +127,14 @@ module _ (a : List ℕ) (first place n key : ℕ) where
 
 -- ---- the search of a node's rows
 
-pub found-small : (a : List ℕ) (n id : ℕ) (x : RxNumber) → lookedUp a n id ≡ At x → x .0 < rowBound
+pub found-small : (a : List ℕ) (n : ℕ) (id : Id) (x : RxNumber) → lookedUp a n id ≡ At x → x .0 < rowBound
 unfolding lookedUp
-found-small a n id x e = omega (arith, found-among (rowCount a n + 1) a (firstRow a n) 0 (rowCount a n) id x e)
+found-small a n id x e = omega (arith, found-among (rowCount a n + 1) a (firstRow a n) 0 (rowCount a n) (keyOf id) x e)
 
-pub place-small : (a : List ℕ) (n id place : ℕ) → lookedUp a n id ≡ Nothing place → place ≤ rowCount a n
+pub place-small : (a : List ℕ) (n : ℕ) (id : Id) (place : ℕ) → lookedUp a n id ≡ Nothing place → place ≤ rowCount a n
 unfolding lookedUp Among
 place-small a n id place e =
-    let most : place ≤ 0 + rowCount a n = rw e at (among (rowCount a n + 1) a (firstRow a n) 0 (rowCount a n) id) in omega arith
+    let most : place ≤ 0 + rowCount a n = rw e at (among (rowCount a n + 1) a (firstRow a n) 0 (rowCount a n) (keyOf id)) in omega arith
 
 -- what the number says that it answers: of 32 bits it is the row's that was found, and else it says the place
 number-found : (f : Found) (r : ℕ) → r ≡ rowNumber f → r < beyond → At (record { 0 = r }) ≡ f
@@ -145,11 +147,11 @@ unfolding rowNumber
 number-lost (At x) r e l h = let b = h x refl in absurd (omega arith)
 number-lost (Nothing place) r e l h = ap Nothing (omega arith)
 
-module _ (a : List ℕ) (n id count first r : ℕ) (c : count ≡ rowCount a n) (f : first ≡ firstRow a n) where
-  module _ (e : r ≡ rowNumber (lookIn (count + 1) a first (first - first) count id)) where
+module _ (a : List ℕ) (n : ℕ) (id : Id) (count first r key : ℕ) (c : count ≡ rowCount a n) (f : first ≡ firstRow a n) (k : key ≡ keyOf id) where
+  module _ (e : r ≡ rowNumber (lookIn (count + 1) a first (first - first) count key)) where
     number : r ≡ rowNumber (lookedUp a n id)
     unfolding lookedUp
-    number = let left : first - first ≡ 0 = omega arith in rw (← c, ← f) (rw left at e)
+    number = let left : first - first ≡ 0 = omega arith in rw (← c, ← f, ← k) (rw left at e)
 
     abbrev Says : Found → Type 0
     Says f = (f ≡ lookedUp a n id) × ((x : RxNumber) → f ≡ At x → x .0 < rowBound)

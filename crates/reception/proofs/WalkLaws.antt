@@ -7,10 +7,10 @@ use Prim.Native.Nat.{ℕ, _+_, _%_, _≤_, _<_}
 use native.Mathlib.Omega.{arith}
 use lib.ListN.{length}
 use Rattle.base.specs.Numbers.{byteAt, twoAt}
-use Rattle.records.specs.Kinds.{rxAt, rxBytes}
+use Rattle.records.specs.Kinds.{rxFields}
 use Rattle.records.specs.Records.{recordsAt}
 use Rattle.plan.specs.Rows.{copy, Claim, claimsFrom}
-use Rattle.area.specs.Layout.{counterByte, rowBound, rxTimer, long, order, rxRecordPlace, stored, claims}
+use Rattle.area.specs.Layout.{counterByte, rowBound, rxTimer, long, order, rxFieldsPlace, stored, rxThere, claims}
 use Rattle.area.specs.Claims.{accepted, done, allDone, failureWritten}
 use Rattle.area.proofs.Frame.{Same, same-refl, same-set}
 use Rattle.area.proofs.Kept.{Kept, kept-refl, kept-low, stored-kept}
@@ -60,25 +60,25 @@ pub counter-restarted : (a : List ℕ) (r : ℕ) → Same (λ j. j ≡ counterBy
 unfolding restarted
 counter-restarted a r = same-set _ _ (λ p. omega arith) (same-set _ _ (λ p. omega arith) (same-refl a))
 
--- on an area that keeps the plan, once the failure bit is written, the walk from the end of the Rx record on does all that the claims say
+-- on an area that keeps the plan, once the failure bit is written, the walk from the end of the Rx frame's fields on does all that the claims say
 pub walked-claims :
-    (a : List ℕ) (r : ℕ) (payload b c : List ℕ) → Kept a b → c ≡ failureWritten (order a) 0 b (rxRecordPlace a r)
-    → rxAt (stored b) (rxRecordPlace a r) .position < 256
-    → walked (order a) payload 0 0 (stored c) (rxRecordPlace a r + rxBytes) c ≡ allDone (order a) (accepted r payload) (claims a r) b
+    (a : List ℕ) (r : ℕ) (payload b c : List ℕ) → Kept a b → c ≡ failureWritten (order a) 0 b (rxFieldsPlace a r)
+    → rxThere b (rxFieldsPlace a r) .position < 256
+    → walked (order a) payload 0 0 (stored c) (rxFieldsPlace a r + rxFields) c ≡ allDone (order a) (accepted r payload) (claims a r) b
 unfolding walked claims
 walked-claims a r payload b c kept f narrow =
-    let at = rxRecordPlace a r in
+    let at = rxFieldsPlace a r in
     let same : stored c ≡ stored b = rw f (stored-kept (kept-failure (order a) 0 b at narrow)) in
     rw same
-    (copies-rx (order a) (accepted 0 payload) 0 r 0 0 (recordsAt (stored b) (at + rxBytes)) c
+    (copies-rx (order a) (accepted 0 payload) 0 r 0 0 (recordsAt (stored b) (at + rxFields)) c
     ∙ sym (allDone-numbered (order a) r (accepted 0 payload) _ c)
-    ∙ ap (allDone (order a) (accepted r payload) (claimsFrom r none 0 0 (recordsAt (stored b) (at + rxBytes)))) f
+    ∙ ap (allDone (order a) (accepted r payload) (claimsFrom r none 0 0 (recordsAt (stored b) (at + rxFields)))) f
     ∙ sym (accepted-claims (order a) r a at b payload (stored-kept kept)))
 
 -- once the row has started again: what an acceptance does
 pub walked-accepted :
-    (a : List ℕ) (r : ℕ) (payload b c : List ℕ) → r < rowBound → b ≡ restarted a r → c ≡ failureWritten (order a) 0 b (rxRecordPlace a r)
-    → rxAt (stored b) (rxRecordPlace a r) .position < 256
-    → walked (order a) payload 0 0 (stored c) (rxRecordPlace a r + rxBytes) c ≡ acceptedArea a r payload
+    (a : List ℕ) (r : ℕ) (payload b c : List ℕ) → r < rowBound → b ≡ restarted a r → c ≡ failureWritten (order a) 0 b (rxFieldsPlace a r)
+    → rxThere b (rxFieldsPlace a r) .position < 256
+    → walked (order a) payload 0 0 (stored c) (rxFieldsPlace a r + rxFields) c ≡ acceptedArea a r payload
 unfolding acceptedArea
 walked-accepted a r payload b c h e f narrow = rw (← e) (walked-claims a r payload b c (rw e (kept-restarted a r h)) f narrow)

@@ -4,6 +4,8 @@ use Prim.Native.Nat.{ℕ, zero, suc, _+_, _-_, _*_, _/_}
 use mathlib.Core.List.{List}
 use lib.Dec.{eqb, ltb}
 use Rattle.base.specs.Pick.{pick}
+use Rattle.records.specs.declared.record.Id.{Id}
+use Rattle.records.specs.Ids.{keyOf}
 use Rattle.area.specs.Layout.{firstRow, rowCount, keyAt}
 use Rattle.reception.specs.declared.lookup.Found.{Found}
 use Rattle.reception.specs.declared.lookup.Found.the-variants.{At, Nothing}
@@ -24,8 +26,8 @@ lookIn zero a first place n key = Nothing place
 lookIn (suc looks) a first place n key = lookOnce (λ left remaining. lookIn looks a first left remaining key) a first place n key
 
 -- "that node's rows only"
-unfoldable pub lookedUp : List ℕ → ℕ → ℕ → Found
-lookedUp a n id = lookIn (rowCount a n + 1) a (firstRow a n) 0 (rowCount a n) id
+unfoldable pub lookedUp : List ℕ → ℕ → Id → Found
+lookedUp a n id = lookIn (rowCount a n + 1) a (firstRow a n) 0 (rowCount a n) (keyOf id)
 
 -- what was found as a plain number: the row's, or for a place an odd multiple of what no row reaches
 abbrev pub beyond : ℕ

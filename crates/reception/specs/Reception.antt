@@ -1,10 +1,11 @@
--- "Reception takes node, ID and payload."
+-- "Reception takes node, ID and payload." "A reception .. say[s] which format" (document 02, Ticket 6): the ID says it.
 use Prim.Native.Nat.{ℕ, _%_}
 use mathlib.Core.List.{List}
 use lib.Dec.{leb, ltb}
 use lib.ListN.{length, set}
 use Rattle.base.specs.Pick.{pick}
 use Rattle.base.specs.Numbers.{byteAt}
+use Rattle.records.specs.declared.record.Id.{Id}
 use Rattle.records.specs.Nodes.{isLin}
 use Rattle.area.specs.Layout.{rxReload, rxTimer, long, marked, order, nodeCount, typeOn, rxFrame, claims}
 use Rattle.area.specs.Claims.{accepted, allDone}
@@ -36,7 +37,7 @@ foundArea a (Nothing place) payload = a
 foundArea a (At r) payload = pick (ltb (length payload) (rxFrame a (r .0) .size)) a (acceptedArea a (r .0) payload)
 
 -- "For calls: 11, then 12 .., then 13"; "the old reception gives 16 on a LIN node, after 12" (document 02, Ticket 2)
-unfoldable pub receivedAnswer : List ℕ → ℕ → ℕ → List ℕ → Received
+unfoldable pub receivedAnswer : List ℕ → ℕ → Id → List ℕ → Received
 receivedAnswer a n id payload =
     pick (marked a)
     (pick (ltb n (nodeCount a))
@@ -45,7 +46,7 @@ receivedAnswer a n id payload =
     (Refused NoNode))
     (Refused NotOpen)
 
-unfoldable pub receivedArea : List ℕ → ℕ → ℕ → List ℕ → List ℕ
+unfoldable pub receivedArea : List ℕ → ℕ → Id → List ℕ → List ℕ
 receivedArea a n id payload =
     pick (marked a)
     (pick (ltb n (nodeCount a)) (pick (isLin (typeOn a n)) a (pick (leb (length payload) 8) (foundArea a (lookedUp a n id) payload) a)) a)

@@ -2,6 +2,7 @@
 use area::rows::first_row;
 use area::rows::key_at;
 use area::rows::row_count;
+use records::record::Id;
 use records::record::RxNumber;
 ghost use mathlib.Core.Path.{_≡_};
 ghost use Prim.Native.Nat.{_+_, _-_, _≤_, _<_};
@@ -32,14 +33,14 @@ impl Found {
     }
 }
 
-// The row of a node that has an ID, among that node's rows only; or the place where such a row would belong.
-pub fn look_up(area: &[u8], node: usize, id: u32) -> Found
+// The row of a node that has an ID, among that node's rows only; or the place where such a row would belong. One key is searched for, whatever the format.
+pub fn look_up(area: &[u8], node: usize, id: Id) -> Found
     requires { ⌜ (node < 16) × LongEnough (now area) ⌝ }
     ensures { λ r. ⌜ (r ≡ lookedUp (now (area .entry)) node id) × ((x : RxNumber) → r ≡ At x → x .0 < rowBound) ⌝ }
 {
     let n = row_count(area, node);
     let first = first_row(area, node);
-    let r = look(&area, first, first, n, id);
+    let r = look(&area, first, first, n, id.key() as u32);
     if r < BEYOND {
         return Found::At(RxNumber(r));
     }

@@ -7,31 +7,28 @@ use lib.ListN.{length}
 use Rattle.base.proofs.Apart.{differ}
 use Rattle.base.specs.Pick.{pick}
 use Rattle.base.specs.Numbers.{byteAt}
-use Rattle.base.proofs.Picks.{by-eqb}
 use Rattle.records.specs.declared.record.SignalBody.{SignalBody}
 use Rattle.records.specs.declared.record.DestinationBody.{DestinationBody}
 use Rattle.records.specs.declared.record.Follower.the-variants as follower
 use Rattle.records.specs.declared.record.Record.{Record}
 use Rattle.records.specs.declared.record.Record.the-variants.{Head, Node, Tx, Rx, Signal, Destination, Broken}
-use Rattle.records.specs.Kinds.{formOf, lengthOf, fieldsAt, kindOf, signalBytes, destinationBytes}
+use Rattle.records.specs.Kinds.{formOf, lengthOf, txRecord, rxRecord, fieldsAt, kindOf, signalBytes, destinationBytes}
 use Rattle.records.specs.Records.{recordAt, sizeOf}
 use Rattle.records.specs.Reading.{stepAt, followerOf, followerAt}
-use Rattle.records.proofs.RecordLaws.{no-fields, by-whole, record-cut, record-whole}
+use Rattle.records.proofs.RecordLaws.{by-kind-byte, no-fields, by-whole, record-cut, record-whole}
 
 -- ---- by the kind byte
 
 module _ (plan : List ℕ) (at : ℕ) where
   -- a byte that is the kind of neither
   pub follower-other : (byteAt plan at ≡ 5 → ⊥) → (byteAt plan at ≡ 6 → ⊥) → follower.Other ≡ followerAt plan at
-  unfolding followerOf fieldsAt formOf pick
+  unfolding followerOf fieldsAt txRecord rxRecord formOf pick
   follower-other n5 n6 =
       let kind = byteAt plan at in
-      let P : ℕ → Type 0 = λ n. follower.Other ≡ followerOf (fieldsAt kind plan at) in
       by-whole (λ r. follower.Other ≡ followerOf r) plan at (λ fault. refl)
-      (by-eqb P kind 1 0 0 (λ e. rw e) (λ n1.
-      by-eqb P kind 2 0 0 (λ e. rw e) (λ n2.
-      by-eqb P kind 3 0 0 (λ e. rw e) (λ n3.
-      by-eqb P kind 4 0 0 (λ e. rw e) (λ n4. rw (← (no-fields kind n1 n2 n3 n4 n5 n6 plan at)))))))
+      (by-kind-byte (λ k. (k ≡ 5 → ⊥) → (k ≡ 6 → ⊥) → follower.Other ≡ followerOf (fieldsAt k plan at))
+      (λ s d. refl) (λ s d. refl) (λ s d. refl) (λ s d. refl) (λ s d. absurd (s refl)) (λ s d. absurd (d refl)) (λ s d. refl) (λ s d. refl) kind
+      (λ none s d. rw (← (no-fields kind none plan at))) n5 n6)
 
 module _ (plan : List ℕ) (at : ℕ) (h : at < length plan) where
   pub follower-cut : 0 < lengthOf (byteAt plan at) → length plan - at < lengthOf (byteAt plan at) → follower.Other ≡ followerAt plan at

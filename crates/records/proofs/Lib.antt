@@ -1,3 +1,4 @@
+pub mod IdLaws
 pub mod RecordLaws
 pub mod Followers
 pub mod Variants

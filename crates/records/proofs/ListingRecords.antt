@@ -3,9 +3,11 @@ use mathlib.Core.Path.{_≡_, refl}
 use mathlib.Core.List.{List, [], _∷_}
 use Prim.Native.Nat.{ℕ}
 use Rattle.base.specs.Pick.{pick}
+use Rattle.records.specs.declared.record.Id.the-variants.{Standard}
 use Rattle.records.specs.declared.record.Record.{Record}
 use Rattle.records.specs.declared.record.Record.the-variants.{Head, Node, Tx, Rx, Signal, Destination}
-use Rattle.records.specs.Kinds.{eightAt, txAt, rxAt, formOf, lengthOf, fieldsAt, kindOf}
+use Rattle.records.specs.Ids.{behindId}
+use Rattle.records.specs.Kinds.{eightAt, txAt, rxAt, txRecord, rxRecord, formOf, lengthOf, fieldsAt, txKind, rxKind, kindOf}
 use Rattle.records.specs.Records.{recordAt, sizeOf, recordsFrom, recordsAt, records}
 
 abbrev pub listing : List ℕ
@@ -24,7 +26,7 @@ listed =
     ∷ Node (record { of = 0 })
     ∷ Tx (record {
       node = 0;
-      id = 256;
+      id = Standard 256;
       size = 2;
       prescaler = 1;
       reload = 3;
@@ -33,11 +35,11 @@ listed =
       payload = record
           { 0 = 0; 1 = 0; 2 = 0; 3 = 0; 4 = 0; 5 = 0; 6 = 0; 7 = 0 };
     })
-    ∷ Rx (record { node = 0; id = 32; size = 1; prescaler = 1; reload = 2; initial = 2; enable = 1; position = 15; long = 2 })
+    ∷ Rx (record { node = 0; id = Standard 32; size = 1; prescaler = 1; reload = 2; initial = 2; enable = 1; position = 15; long = 2 })
     ∷ Signal (record { position = 2; size = 4 })
     ∷ Destination (record { tx = record { 0 = 0 }; position = 6 })
     ∷ []
 
 pub listing-records : records listing ≡ listed
-unfolding eightAt txAt rxAt formOf lengthOf fieldsAt kindOf recordAt sizeOf recordsFrom recordsAt records pick
+unfolding eightAt txAt rxAt behindId txRecord rxRecord formOf lengthOf fieldsAt txKind rxKind kindOf recordAt sizeOf recordsFrom recordsAt records pick
 listing-records = refl

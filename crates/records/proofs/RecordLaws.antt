@@ -1,5 +1,6 @@
 -- Laws of the record at a place, and of the records from a place on.
 use mathlib.Core.Path.{_≡_, refl, sym, ap, _∙_}
+use mathlib.Core.Bool.{false}
 use mathlib.Core.List.{List, [], _∷_}
 use Prim.Native.Nat.{ℕ, zero, suc, _+_, _-_, _≤_, _<_}
 use native.Mathlib.Nat.{add-zero}
@@ -8,25 +9,69 @@ use borrow.Author.Tests.{le-leb, lt-leb, leb-true, leb-false, ltb-false, eqb-fal
 use lib.ListN.{length}
 use lib.Dec.{leb, ltb, eqb}
 use Rattle.base.specs.Pick.{pick}
-use Rattle.base.specs.Numbers.{byteAt, twoAt}
+use Rattle.base.specs.Numbers.{byteAt, twoAt, fourAt}
 use Rattle.base.proofs.Picks.{picks, passes, both, cases, by-eqb}
 use Rattle.records.specs.declared.record.Record.{Record}
 use Rattle.records.specs.declared.record.Record.the-variants.{Head, Node, Tx, Rx, Signal, Destination, Broken}
-use Rattle.records.specs.declared.record.TxFrame.{TxFrame}
-use Rattle.records.specs.declared.record.RxFrame.{RxFrame}
+use Rattle.records.specs.declared.record.Id.{Id}
+use Rattle.records.specs.declared.record.Id.the-variants.{Standard, Extended}
 use Rattle.records.specs.declared.record.Fault.{Fault}
-use Rattle.records.specs.Views.{noTx, noRx, asTx, asRx}
 use Rattle.records.specs.declared.record.Fault.the-variants.{End, BadKind, Cut}
-use Rattle.records.specs.Kinds.{Form, formOf, lengthOf, stageOfKind, txAt, rxAt, fieldsAt, kindOf}
+use Rattle.records.specs.Kinds.{Form, formOf, lengthOf, stageOfKind, txAt, rxAt, txRecord, rxRecord, fieldsAt, txKind, rxKind, kindOf}
 use Rattle.records.specs.declared.decode.Step.{Step}
 use Rattle.records.specs.Reading.{stepAt}
 use Rattle.records.specs.Records.{recordAt, faultSize, sizeOf, recordsFrom, recordsAt}
 
--- a byte that is no kind passes every row of the table: such a record has no length, and no fields
-module _ (kind : ℕ) (n1 : kind ≡ 1 → ⊥) (n2 : kind ≡ 2 → ⊥) (n3 : kind ≡ 3 → ⊥) (n4 : kind ≡ 4 → ⊥) (n5 : kind ≡ 5 → ⊥) (n6 : kind ≡ 6 → ⊥) where
+-- a byte that is no kind: the kinds are 1 to 8
+abbrev pub NoKind : ℕ → Type 0
+NoKind kind = 0 < kind → kind ≤ 8 → ⊥
+
+not-both : {kind : ℕ} → kind ≤ 8 → 8 < kind → ⊥
+not-both most past = omega arith
+
+past-four : {kind : ℕ} → 0 < kind → (kind ≡ 1 → ⊥) → (kind ≡ 2 → ⊥) → (kind ≡ 3 → ⊥) → (kind ≡ 4 → ⊥) → 4 < kind
+past-four some n1 n2 n3 n4 = omega arith
+
+past-eight : {kind : ℕ} → 4 < kind → (kind ≡ 5 → ⊥) → (kind ≡ 6 → ⊥) → (kind ≡ 7 → ⊥) → (kind ≡ 8 → ⊥) → 8 < kind
+past-eight more n5 n6 n7 n8 = omega arith
+
+pub no-kind :
+    {kind : ℕ} → (kind ≡ 1 → ⊥) → (kind ≡ 2 → ⊥) → (kind ≡ 3 → ⊥) → (kind ≡ 4 → ⊥) → (kind ≡ 5 → ⊥) → (kind ≡ 6 → ⊥) → (kind ≡ 7 → ⊥) → (kind ≡ 8 → ⊥)
+    → NoKind kind
+no-kind n1 n2 n3 n4 n5 n6 n7 n8 some most = not-both most (past-eight (past-four some n1 n2 n3 n4) n5 n6 n7 n8)
+
+-- what holds of each kind, and of a byte that is none, holds of every byte
+pub by-kind-byte :
+    (P : ℕ → Type 0) → P 1 → P 2 → P 3 → P 4 → P 5 → P 6 → P 7 → P 8 → (kind : ℕ) → (NoKind kind → P kind) → P kind
+by-kind-byte P p1 p2 p3 p4 p5 p6 p7 p8 kind other =
+    let Q : ℕ → Type 0 = λ n. P kind in
+    by-eqb Q kind 1 0 0 (λ e. rw e p1) (λ n1.
+    by-eqb Q kind 2 0 0 (λ e. rw e p2) (λ n2.
+    by-eqb Q kind 3 0 0 (λ e. rw e p3) (λ n3.
+    by-eqb Q kind 4 0 0 (λ e. rw e p4) (λ n4.
+    by-eqb Q kind 5 0 0 (λ e. rw e p5) (λ n5.
+    by-eqb Q kind 6 0 0 (λ e. rw e p6) (λ n6.
+    by-eqb Q kind 7 0 0 (λ e. rw e p7) (λ n7.
+    by-eqb Q kind 8 0 0 (λ e. rw e p8) (λ n8. other (no-kind n1 n2 n3 n4 n5 n6 n7 n8)))))))))
+
+-- it passes every row of the table: such a record has no length, and no fields
+module _ (kind : ℕ) (none : NoKind kind) where
+  not-one : (n : ℕ) → 0 < n → n ≤ 8 → eqb kind n ≡ false
+  not-one n some most = ne-eqb kind n (λ (e : kind ≡ n). none (omega arith) (omega arith))
+
   no-form : record { bytes = 0; stage = 0; fields = λ plan at. Broken BadKind } ≡ formOf kind
   unfolding formOf pick
-  no-form = rw (ne-eqb _ _ n1, ne-eqb _ _ n2, ne-eqb _ _ n3, ne-eqb _ _ n4, ne-eqb _ _ n5, ne-eqb _ _ n6)
+  no-form =
+      rw (
+        not-one 1 (omega arith) (omega arith),
+        not-one 2 (omega arith) (omega arith),
+        not-one 3 (omega arith) (omega arith),
+        not-one 4 (omega arith) (omega arith),
+        not-one 5 (omega arith) (omega arith),
+        not-one 6 (omega arith) (omega arith),
+        not-one 7 (omega arith) (omega arith),
+        not-one 8 (omega arith) (omega arith),
+      )
 
   pub no-length : 0 ≡ lengthOf kind
   unfolding lengthOf
@@ -42,15 +87,10 @@ module _ (kind : ℕ) (n1 : kind ≡ 1 → ⊥) (n2 : kind ≡ 2 → ⊥) (n3 : 
 
 -- a whole record has the bytes that its kind says
 fields-size : (kind : ℕ) (plan : List ℕ) (at : ℕ) → 0 < lengthOf kind → sizeOf (fieldsAt kind plan at) ≡ lengthOf kind
-unfolding fieldsAt sizeOf kindOf lengthOf formOf pick
+unfolding fieldsAt txRecord rxRecord txAt rxAt sizeOf kindOf txKind rxKind lengthOf formOf pick
 fields-size kind plan at h =
-    let P : ℕ → Type 0 = λ n. sizeOf (fieldsAt kind plan at) ≡ lengthOf kind in
-    by-eqb P kind 1 0 0 (λ e. rw e) (λ n1.
-    by-eqb P kind 2 0 0 (λ e. rw e) (λ n2.
-    by-eqb P kind 3 0 0 (λ e. rw e) (λ n3.
-    by-eqb P kind 4 0 0 (λ e. rw e) (λ n4.
-    by-eqb P kind 5 0 0 (λ e. rw e) (λ n5.
-    by-eqb P kind 6 0 0 (λ e. rw e) (λ n6. absurd (omega (arith, no-length kind n1 n2 n3 n4 n5 n6))))))))
+    by-kind-byte (λ k. sizeOf (fieldsAt k plan at) ≡ lengthOf k) refl refl refl refl refl refl refl refl kind
+    (λ none. absurd (omega (arith, no-length kind none)))
 
 -- what holds of every fault, and of the fields of the kind whose byte stands at a place, holds of the record there
 pub by-whole :
@@ -60,31 +100,24 @@ by-whole P plan at broken whole = both P _ _ _ (broken End) (both P _ _ _ (broke
 
 -- ---- what holds of each kind, with the fields that stand there, and of a fault holds of the record at a place
 
+-- an ID that stands in the record at a place
+pub data IdAt (plan : List ℕ) (at : ℕ) : Id → Type 0 where
+  two : IdAt plan at (Standard (twoAt plan (at + 2)))
+  four : IdAt plan at (Extended (fourAt plan (at + 2)))
+
 module _ (P : Record → Type 0) (plan : List ℕ) (at : ℕ) (broken : (fault : Fault) → P (Broken fault)) (head : P (Head (byteAt plan (at + 1))))
-    (node : P (Node (record { of = byteAt plan (at + 1) }))) (tx : P (Tx (txAt plan at))) (rx : P (Rx (rxAt plan at)))
+    (node : P (Node (record { of = byteAt plan (at + 1) }))) (tx : (id : Id) → IdAt plan at id → P (txRecord id plan at))
+    (rx : (id : Id) → IdAt plan at id → P (rxRecord id plan at))
     (signal : P (Signal (record { position = byteAt plan (at + 1); size = byteAt plan (at + 2) })))
     (destination : P (Destination (record { tx = record { 0 = twoAt plan (at + 1) }; position = byteAt plan (at + 3) }))) where
   by-fields : (kind : ℕ) → P (fieldsAt kind plan at)
   unfolding fieldsAt formOf pick
   by-fields kind =
-      let Q : ℕ → Type 0 = λ n. P (fieldsAt kind plan at) in
-      by-eqb Q kind 1 0 0 (λ e. rw e head) (λ n1.
-      by-eqb Q kind 2 0 0 (λ e. rw e node) (λ n2.
-      by-eqb Q kind 3 0 0 (λ e. rw e tx) (λ n3.
-      by-eqb Q kind 4 0 0 (λ e. rw e rx) (λ n4.
-      by-eqb Q kind 5 0 0 (λ e. rw e signal) (λ n5.
-      by-eqb Q kind 6 0 0 (λ e. rw e destination) (λ n6. rw (← (no-fields kind n1 n2 n3 n4 n5 n6 plan at)) (broken BadKind)))))))
+      by-kind-byte (λ k. P (fieldsAt k plan at)) head node (tx _ two) (rx _ two) signal destination (tx _ four) (rx _ four) kind
+      (λ none. rw (← (no-fields kind none plan at)) (broken BadKind))
 
   pub by-record : P (recordAt plan at)
   by-record = by-whole P plan at broken (by-fields _)
-
-pub tx-there : (P : TxFrame → Type 0) (plan : List ℕ) (at : ℕ) → P noTx → P (txAt plan at) → P (asTx (recordAt plan at))
-unfolding asTx
-tx-there P plan at none x = by-record (λ r. P (asTx r)) plan at (λ fault. none) none none x none none none
-
-pub rx-there : (P : RxFrame → Type 0) (plan : List ℕ) (at : ℕ) → P noRx → P (rxAt plan at) → P (asRx (recordAt plan at))
-unfolding asRx
-rx-there P plan at none x = by-record (λ r. P (asRx r)) plan at (λ fault. none) none none none x none none
 
 -- a record lies within the plan, and before the end it takes a byte at least
 record Within (plan : List ℕ) (at : ℕ) (r : Record) : Type 0 where

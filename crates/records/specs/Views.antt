@@ -1,6 +1,7 @@
 -- What others ask of a record: views that name the kinds they are about, and give one answer for every other record. Only here has each
 -- variant its clause.
 use Prim.Native.Nat.{ℕ}
+use Rattle.records.specs.declared.record.Id.the-variants.{Standard}
 use Rattle.records.specs.declared.record.NodeBody.{NodeBody}
 use Rattle.records.specs.declared.record.TxFrame.{TxFrame}
 use Rattle.records.specs.declared.record.RxFrame.{RxFrame}
@@ -58,7 +59,7 @@ abbrev pub noTx : TxFrame
 noTx =
     record {
       node = 0;
-      id = 0;
+      id = Standard 0;
       size = 0;
       prescaler = 0;
       reload = 0;
@@ -68,7 +69,7 @@ noTx =
     }
 
 abbrev pub noRx : RxFrame
-noRx = record { node = 0; id = 0; size = 0; prescaler = 0; reload = 0; initial = 0; enable = 0; position = 0; long = 0 }
+noRx = record { node = 0; id = Standard 0; size = 0; prescaler = 0; reload = 0; initial = 0; enable = 0; position = 0; long = 0 }
 
 -- and past the last record there is this one
 abbrev pub noRecord : Record

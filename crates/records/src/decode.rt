@@ -3,6 +3,7 @@ use crate::record::DestinationBody;
 use crate::record::Eight;
 use crate::record::Fault;
 use crate::record::Follower;
+use crate::record::Id;
 use crate::record::NodeBody;
 use crate::record::Record;
 use crate::record::RxFrame;
@@ -12,7 +13,9 @@ use crate::record::TxNumber;
 ghost use mathlib.Core.Path.{_≡_};
 ghost use Prim.Native.Nat.{_+_, _≤_, _<_};
 ghost use lib.ListN.{length};
-ghost use Rattle.records.specs.Kinds.{lengthOf, stageOfKind, eightAt, txAt, rxAt, fieldsAt, faultStage, stageOf};
+ghost use Rattle.records.specs.Ids.{behindId};
+ghost use Rattle.records.specs.Kinds.{txFields, rxFields, lengthOf, stageOfKind, eightAt, txAt, rxAt, txRecord, rxRecord, fieldsAt};
+ghost use Rattle.records.specs.Kinds.{faultStage, stageOf};
 ghost use Rattle.records.specs.Reading.{stepAt, followerAt};
 ghost use Rattle.records.specs.declared.record.Record.the-variants.{Signal, Destination};
 
@@ -32,39 +35,56 @@ fn eight_at(plan: &[u8], at: usize) -> Eight
     )
 }
 
-fn tx_at(plan: &[u8], at: usize) -> TxFrame
-    requires { ⌜ at + 17 ≤ length (now plan) ⌝ }
-    ensures { λ r. ⌜ r ≡ txAt (now (plan .entry)) at ⌝ }
+// The Tx frame of a node and an ID whose fields behind the ID begin at a place, and so the Rx frame.
+fn tx_at(node: u8, id: Id, plan: &[u8], at: usize) -> TxFrame
+    requires { ⌜ at + txFields ≤ length (now plan) ⌝ }
+    ensures { λ r. ⌜ r ≡ txAt node id (now (plan .entry)) at ⌝ }
 {
-    let id = base::two_at(plan, at + 2);
-    let payload = eight_at(plan, at + 9);
+    let payload = eight_at(plan, at + 5);
     TxFrame {
-        node: plan[at + 1],
+        node,
         id,
-        size: plan[at + 4],
-        prescaler: plan[at + 5],
-        reload: plan[at + 6],
-        initial: plan[at + 7],
-        flags: plan[at + 8],
+        size: plan[at],
+        prescaler: plan[at + 1],
+        reload: plan[at + 2],
+        initial: plan[at + 3],
+        flags: plan[at + 4],
         payload,
     }
 }
 
-fn rx_at(plan: &[u8], at: usize) -> RxFrame
-    requires { ⌜ at + 11 ≤ length (now plan) ⌝ }
-    ensures { λ r. ⌜ r ≡ rxAt (now (plan .entry)) at ⌝ }
+fn rx_at(node: u8, id: Id, plan: &[u8], at: usize) -> RxFrame
+    requires { ⌜ at + rxFields ≤ length (now plan) ⌝ }
+    ensures { λ r. ⌜ r ≡ rxAt node id (now (plan .entry)) at ⌝ }
 {
     RxFrame {
-        node: plan[at + 1],
-        id: base::two_at(plan, at + 2),
-        size: plan[at + 4],
-        prescaler: plan[at + 5],
-        reload: plan[at + 6],
-        initial: plan[at + 7],
-        enable: plan[at + 8],
-        position: plan[at + 9],
-        long: plan[at + 10],
+        node,
+        id,
+        size: plan[at],
+        prescaler: plan[at + 1],
+        reload: plan[at + 2],
+        initial: plan[at + 3],
+        enable: plan[at + 4],
+        position: plan[at + 5],
+        long: plan[at + 6],
     }
+}
+
+// The records of both, with their ID.
+fn tx_record(id: Id, plan: &[u8], at: usize) -> Record
+    requires { ⌜ at + behindId id + txFields ≤ length (now plan) ⌝ }
+    ensures { λ r. ⌜ r ≡ txRecord id (now (plan .entry)) at ⌝ }
+{
+    let fields = at + id.behind();
+    Record::Tx(tx_at(plan[at + 1], id, plan, fields))
+}
+
+fn rx_record(id: Id, plan: &[u8], at: usize) -> Record
+    requires { ⌜ at + behindId id + rxFields ≤ length (now plan) ⌝ }
+    ensures { λ r. ⌜ r ≡ rxRecord id (now (plan .entry)) at ⌝ }
+{
+    let fields = at + id.behind();
+    Record::Rx(rx_at(plan[at + 1], id, plan, fields))
 }
 
 fn signal_at(plan: &[u8], at: usize) -> SignalBody
@@ -113,9 +133,10 @@ pub const HEAD_BYTES: usize = 2;
 
 pub const NODE_BYTES: usize = 2;
 
-pub const TX_BYTES: usize = 17;
+// of a frame, its fields behind the ID
+pub const TX_FIELDS: usize = 13;
 
-pub const RX_BYTES: usize = 11;
+pub const RX_FIELDS: usize = 7;
 
 pub const SIGNAL_BYTES: usize = 3;
 
@@ -123,7 +144,7 @@ pub const DESTINATION_BYTES: usize = 4;
 
 // The same by the kind byte; 0 where there is no such kind.
 pub fn length_of(kind: u8) -> usize
-    ensures { λ r. ⌜ (r ≡ lengthOf kind) × (r ≤ 17) ⌝ }
+    ensures { λ r. ⌜ (r ≡ lengthOf kind) × (r ≤ 19) ⌝ }
 {
     if kind == 1 {
         return HEAD_BYTES;
@@ -132,16 +153,22 @@ pub fn length_of(kind: u8) -> usize
         return NODE_BYTES;
     }
     if kind == 3 {
-        return TX_BYTES;
+        return 4 + TX_FIELDS;
     }
     if kind == 4 {
-        return RX_BYTES;
+        return 4 + RX_FIELDS;
     }
     if kind == 5 {
         return SIGNAL_BYTES;
     }
     if kind == 6 {
         return DESTINATION_BYTES;
+    }
+    if kind == 7 {
+        return 6 + TX_FIELDS;
+    }
+    if kind == 8 {
+        return 6 + RX_FIELDS;
     }
     0
 }
@@ -168,6 +195,12 @@ fn stage_of_kind(kind: u8) -> u8
     if kind == 6 {
         return DESTINATION_STAGE;
     }
+    if kind == 7 {
+        return TX_STAGE;
+    }
+    if kind == 8 {
+        return RX_STAGE;
+    }
     0
 }
 
@@ -185,16 +218,22 @@ fn fields_at(kind: u8, plan: &[u8], at: usize) -> Record
         return Record::Node(NodeBody { of: plan[at + 1] });
     }
     if kind == 3 {
-        return Record::Tx(tx_at(plan, at));
+        return tx_record(Id::Standard(base::two_at(plan, at + 2)), plan, at);
     }
     if kind == 4 {
-        return Record::Rx(rx_at(plan, at));
+        return rx_record(Id::Standard(base::two_at(plan, at + 2)), plan, at);
     }
     if kind == 5 {
         return Record::Signal(signal_at(plan, at));
     }
     if kind == 6 {
         return Record::Destination(destination_at(plan, at));
+    }
+    if kind == 7 {
+        return tx_record(Id::Extended(base::four_at(plan, at + 2)), plan, at);
+    }
+    if kind == 8 {
+        return rx_record(Id::Extended(base::four_at(plan, at + 2)), plan, at);
     }
     Record::Broken(Fault::BadKind)
 }

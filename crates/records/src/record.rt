@@ -1,4 +1,7 @@
 // What a record says, as a value.
+ghost use mathlib.Core.Path.{_≡_};
+ghost use Prim.Native.Nat.{_^_, _≤_, _<_};
+ghost use Rattle.records.specs.Ids.{plainId, behindId, keyOf};
 
 // The number of an Rx frame, and that of a Tx frame: they count separate tables, and one never stands for the other.
 pub struct RxNumber(pub usize);
@@ -29,9 +32,52 @@ pub struct Eight(
     pub u8,
 );
 
+// The ID of a frame, with its format: 11 bits, or the 29 bits of an extended frame. ID 32 in one format is not ID 32 in the other.
+pub enum Id {
+    Standard(usize),
+    Extended(usize),
+}
+
+// Behind the largest number that stands below the format in a key.
+const FORMAT_BIT: usize = 2147483648;
+
+const LAST_NUMBER: usize = 2147483647;
+
+impl Id {
+    // The number alone.
+    pub fn plain(self) -> usize
+        ensures { λ r. ⌜ r ≡ plainId self ⌝ }
+    {
+        match self {
+            Id::Standard(n) => n,
+            Id::Extended(n) => n,
+        }
+    }
+
+    // How many bytes a record with this ID has before its fields behind the ID.
+    pub fn behind(self) -> usize
+        ensures { λ r. ⌜ (r ≡ behindId self) × (r ≤ 6) ⌝ }
+    {
+        match self {
+            Id::Standard(_) => 4,
+            Id::Extended(_) => 6,
+        }
+    }
+
+    // The number by which rows are ordered and searched: the format is its highest bit.
+    pub fn key(self) -> usize
+        ensures { λ r. ⌜ (r ≡ keyOf self) × (r < 2 ^ 32) ⌝ }
+    {
+        match self {
+            Id::Standard(n) => base::at_most(LAST_NUMBER, n),
+            Id::Extended(n) => FORMAT_BIT + base::at_most(LAST_NUMBER, n),
+        }
+    }
+}
+
 pub struct TxFrame {
     pub node: u8,
-    pub id: usize,
+    pub id: Id,
     pub size: u8,
     pub prescaler: u8,
     pub reload: u8,
@@ -42,7 +88,7 @@ pub struct TxFrame {
 
 pub struct RxFrame {
     pub node: u8,
-    pub id: usize,
+    pub id: Id,
     pub size: u8,
     pub prescaler: u8,
     pub reload: u8,

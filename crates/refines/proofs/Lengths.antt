@@ -4,6 +4,7 @@ use mathlib.Core.List.{List, [], _∷_}
 use Prim.Native.Nat.{ℕ, _%_}
 use lib.ListN.{length, length-set}
 use Rattle.base.proofs.Picks.{both}
+use Rattle.records.specs.declared.record.Id.{Id}
 use Rattle.plan.specs.Rows.{Claim}
 use Rattle.area.specs.Layout.{order, claims}
 use Rattle.area.specs.Claims.{RxEvent, accepted, expired, allDone}
@@ -49,7 +50,7 @@ accepted-sized : (a : List ℕ) (r : ℕ) (payload : List ℕ) → length (accep
 unfolding acceptedArea
 accepted-sized a r payload = sized-done (order a) (accepted r payload) (claims a r) _ .len ∙ restarted-sized a r
 
-received-sized : (a : List ℕ) (n id : ℕ) (payload : List ℕ) → length (receivedArea a n id payload) ≡ length a
+received-sized : (a : List ℕ) (n : ℕ) (id : Id) (payload : List ℕ) → length (receivedArea a n id payload) ≡ length a
 received-sized a n id payload =
     by-answer a n id payload (λ x b. length b ≡ length a) (λ x d. refl) (λ r f. accepted-sized a (r .0) payload)
 

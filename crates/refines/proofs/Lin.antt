@@ -33,5 +33,4 @@ module _ {plan a : List ℕ} {s : State} (h : Held plan a s) where
   row-lin r l =
       let n = rowAt plan r .frame .node in
       let m = row-ranges plan (h .good) r l .node in
-      let small : n % 16 ≡ n = omega (arith, below h n m) in
-      ap (λ (x : RxFrame). isLin (typeOn a (x .node % 16))) (h .reads .rx r l .frame) ∙ ap (λ (k : ℕ). isLin (typeOn a k)) small ∙ lin-is n m
+      ap (λ (k : ℕ). isLin (typeOn a k)) (h .reads .rx r l .home) ∙ lin-is n m

@@ -8,6 +8,7 @@ use lib.ListN.{length}
 use borrow.Author.Tests.{ltb-true}
 use Rattle.base.proofs.Apart.{differ}
 use Rattle.base.proofs.Picks.{picks}
+use Rattle.records.specs.declared.record.Id.{Id}
 use Rattle.records.specs.declared.record.RxFrame.{RxFrame}
 use Rattle.records.specs.Records.{records}
 use Rattle.plan.specs.Rows.{rowsOf, nodesIn}
@@ -40,7 +41,7 @@ use Rattle.refines.proofs.Puts.{held-accepted}
 module _ {plan a : List ℕ} {s : State} (lawful : Lawful (said plan)) (h : Held plan a s) where
   -- ---- the lookup in the area finds what the model finds in the plan
 
-  module _ (n id : ℕ) (known : n < nodesIn (records plan)) where
+  module _ (n : ℕ) (id : Id) (known : n < nodesIn (records plan)) where
     looks : Finds plan a n id
     looks = lookup-finds plan a _ _ _ (facts-good plan (h .good)) (h .reads) n id (omega (arith, h .good .counts .nodes))
 
@@ -74,7 +75,7 @@ module _ {plan a : List ℕ} {s : State} (lawful : Lawful (said plan)) (h : Held
   pub known-is : (n : ℕ) → ltb n (nodeCount a) ≡ ltb n (nodesIn (records plan))
   known-is n = ap (ltb n) (h .reads .header .nodes)
 
-  answered : (n id : ℕ) (payload : List ℕ) → receivedAnswer a n id payload ≡ model.receivedAnswer (said plan) s n id payload
+  answered : (n : ℕ) (id : Id) (payload : List ℕ) → receivedAnswer a n id payload ≡ model.receivedAnswer (said plan) s n id payload
   unfolding receivedAnswer model.receivedAnswer foundAnswer model.foundAnswer
   answered n id payload =
       picks _ _ _ (h .reads .header .mark)
@@ -87,7 +88,7 @@ module _ {plan a : List ℕ} {s : State} (lawful : Lawful (said plan)) (h : Held
       (λ m. refl)))
       (λ k. refl)
 
-  held-received : (n id : ℕ) (payload : List ℕ) → Held plan (receivedArea a n id payload) (model.received (said plan) s n id payload)
+  held-received : (n : ℕ) (id : Id) (payload : List ℕ) → Held plan (receivedArea a n id payload) (model.received (said plan) s n id payload)
   unfolding receivedArea model.received foundArea model.foundState
   held-received n id payload =
       rw (picks _ _ _ (h .reads .header .mark))
@@ -99,6 +100,6 @@ module _ {plan a : List ℕ} {s : State} (lawful : Lawful (said plan)) (h : Held
       (λ m. h)))
       (λ k. h))
 
-  pub reception-follows : (n id : ℕ) (payload : List ℕ) → Follows plan a s (calls.reception n id payload)
+  pub reception-follows : (n : ℕ) (id : Id) (payload : List ℕ) → Follows plan a s (calls.reception n id payload)
   unfolding answerIn areaAfter calls.answerOf calls.nextOf
   reception-follows n id payload = record { answer = ap calls.received (answered n id payload); held = held-received n id payload }

@@ -7,6 +7,7 @@ use lib.Dec.{leb, eqb}
 use lib.ListN.{length}
 use borrow.Author.Tests.{ltb-true}
 use Rattle.base.proofs.Picks.{picks}
+use Rattle.records.specs.declared.record.Id.the-variants.{Standard}
 use Rattle.records.specs.Records.{records}
 use Rattle.plan.specs.Rows.{rowsOf, nodesIn}
 use Rattle.reception.specs.declared.lookup.Found.{Found}
@@ -34,7 +35,7 @@ module _ {plan a : List ℕ} {s : State} (lawful : Lawful (said plan)) (h : Held
       → ((r : ℕ) → r < length (rowsOf plan) → P (At (record { 0 = r })) (reception.at r)) → P (polled a n id) (model.polled (said plan) n id)
   unfolding polled model.polled
   by-polled n id known P none some =
-      chosen P _ _ (lin-is h n known) (λ on. by-lookup lawful h n id known P (λ place e. none place) some) (λ off. none 0)
+      chosen P _ _ (lin-is h n known) (λ on. by-lookup lawful h n (Standard id) known P (λ place e. none place) some) (λ off. none 0)
 
   small : (r : ℕ) → r < length (rowsOf plan) → r % 256 ≡ r
   small r l = omega (arith, h .good .counts .rx)

@@ -8,13 +8,14 @@ use native.Mathlib.Decide.{ℕ-discrete, decLt}
 use native.Mathlib.Omega.{arith}
 use lib.ListN.{length}
 use Rattle.base.specs.Pick.{pick}
-use Rattle.base.proofs.Picks.{by-eqb}
+use Rattle.records.specs.declared.record.Id.{Id}
+use Rattle.records.specs.declared.record.Id.the-variants.{Standard, Extended}
 use Rattle.records.specs.declared.record.Record.{Record}
 use Rattle.records.specs.declared.record.Record.the-variants.{Head, Node, Tx, Rx, Signal, Destination, Broken}
 use Rattle.records.specs.declared.record.SignalBody.{SignalBody}
 use Rattle.records.specs.declared.record.Fault.the-variants.{End, BadKind, Cut}
-use Rattle.records.specs.Kinds.{formOf, stageOfKind, stageOf}
-use Rattle.records.proofs.RecordLaws.{no-stage}
+use Rattle.records.specs.Kinds.{formOf, txStage, rxStage, stageOfKind, txKind, rxKind, stageOf}
+use Rattle.records.proofs.RecordLaws.{by-kind-byte, no-stage}
 use Rattle.plan.specs.Tests.{followed, isKind, isWhole}
 use Rattle.facts.specs.Statements.{State}
 use Rattle.refusals.specs.Before.{_and_, RxBefore}
@@ -27,39 +28,46 @@ use Rattle.refusals.proofs.Fails.{Fails, equal, either, by}
 
 -- ---- the kind of a record, and its stage
 
--- the kinds and their stages have the same numbers
-stage-kind : (kind : ℕ) → stageOfKind kind ≢ 0 → stageOfKind kind ≡ kind
+-- of a signal and of a destination, the kind and the stage have the same number
+stage-kind : (kind : ℕ) → 4 < stageOfKind kind → stageOfKind kind ≡ kind
 unfolding stageOfKind formOf pick
-stage-kind kind d =
-    let P : ℕ → Type 0 = λ n. stageOfKind kind ≡ kind in
-    by-eqb P kind 1 0 0 (λ e. rw e) (λ n1.
-    by-eqb P kind 2 0 0 (λ e. rw e) (λ n2.
-    by-eqb P kind 3 0 0 (λ e. rw e) (λ n3.
-    by-eqb P kind 4 0 0 (λ e. rw e) (λ n4.
-    by-eqb P kind 5 0 0 (λ e. rw e) (λ n5.
-    by-eqb P kind 6 0 0 (λ e. rw e) (λ n6. absurd (d (sym (no-stage kind n1 n2 n3 n4 n5 n6)))))))))
+stage-kind kind =
+    by-kind-byte (λ k. 4 < stageOfKind k → stageOfKind k ≡ k) (λ l. absurd (omega arith)) (λ l. absurd (omega arith)) (λ l. absurd (omega arith))
+    (λ l. absurd (omega arith)) (λ l. refl) (λ l. refl) (λ l. absurd (omega arith)) (λ l. absurd (omega arith)) kind
+    (λ none l. absurd (omega (arith, no-stage kind none)))
+
+-- a frame has one stage in both formats
+tx-stage : (id : Id) → txStage ≡ stageOfKind (txKind id)
+unfolding txKind stageOfKind formOf pick
+tx-stage (Standard n) = refl
+tx-stage (Extended n) = refl
+
+rx-stage : (id : Id) → rxStage ≡ stageOfKind (rxKind id)
+unfolding rxKind stageOfKind formOf pick
+rx-stage (Standard n) = refl
+rx-stage (Extended n) = refl
 
 stage-of : {k : ℕ} {r : Record} → OfKind k r → stageOf r ≡ stageOfKind k
 unfolding stageOf stageOfKind formOf pick
 stage-of (head order) = refl
 stage-of (node body) = refl
-stage-of (tx-frame x) = refl
-stage-of (rx-frame x) = refl
+stage-of (tx-frame x) = tx-stage (x .id)
+stage-of (rx-frame x) = rx-stage (x .id)
 stage-of (signal g) = refl
 stage-of (destination t) = refl
 stage-of (cut kind) = refl
 
-of-kind : (r : Record) → stageOf r ≢ 0 → OfKind (stageOf r) r
+of-kind : (r : Record) → 4 < stageOf r → OfKind (stageOf r) r
 unfolding stageOf
-of-kind (Head order) d = head order
-of-kind (Node body) d = node body
-of-kind (Tx x) d = tx-frame x
-of-kind (Rx x) d = rx-frame x
-of-kind (Signal body) d = signal body
-of-kind (Destination body) d = destination body
-of-kind (Broken End) d = absurd (d refl)
-of-kind (Broken BadKind) d = absurd (d refl)
-of-kind (Broken (Cut kind)) d = rw (stage-kind kind d) (cut kind)
+of-kind (Head order) l = absurd (omega arith)
+of-kind (Node body) l = absurd (omega arith)
+of-kind (Tx x) l = absurd (omega arith)
+of-kind (Rx x) l = absurd (omega arith)
+of-kind (Signal body) l = signal body
+of-kind (Destination body) l = destination body
+of-kind (Broken End) l = absurd (omega arith)
+of-kind (Broken BadKind) l = absurd (omega arith)
+of-kind (Broken (Cut kind)) l = rw (stage-kind kind l) (cut kind)
 
 -- ---- 9, first half
 
@@ -70,7 +78,7 @@ missing since r awaits (one g e) d n = no-destination g r (λ k. n (e ∙ sym (s
 missing since r awaits (nothing x e) d n = absurd (d e)
 
 -- a stage that is awaited, and is not r's
-other : (r : Record) (awaits k : ℕ) → awaits ≡ k → 0 < k → (OfKind k r → ⊥) → (awaits ≢ 0) and (awaits ≢ stageOf r)
+other : (r : Record) (awaits k : ℕ) → awaits ≡ k → 4 < k → (OfKind k r → ⊥) → (awaits ≢ 0) and (awaits ≢ stageOf r)
 other r awaits k e l n = (
   (λ z. omega arith),
   (λ z. let same : stageOf r ≡ k = sym z ∙ e in n (rw same at (of-kind r (omega arith)))),
@@ -127,8 +135,8 @@ unknown : (r : Record) → UnknownKind r → isKind r ≡ false
 unfolding isKind
 unknown (Head order) u = absurd (u 1 (head order))
 unknown (Node body) u = absurd (u 2 (node body))
-unknown (Tx x) u = absurd (u 3 (tx-frame x))
-unknown (Rx x) u = absurd (u 4 (rx-frame x))
+unknown (Tx x) u = absurd (u _ (tx-frame x))
+unknown (Rx x) u = absurd (u _ (rx-frame x))
 unknown (Signal body) u = absurd (u 5 (signal body))
 unknown (Destination body) u = absurd (u 6 (destination body))
 unknown (Broken End) u = refl

@@ -7,16 +7,18 @@ use Prim.Native.Nat.{ℕ, zero, suc, _≤_, _<_}
 use native.Mathlib.Omega.{arith}
 use lib.Dec.{leb, ltb, eqb}
 use lib.ListN.{getD}
+use Rattle.records.specs.declared.record.Id.{Id}
+use Rattle.records.specs.declared.record.Id.the-variants.{Standard, Extended}
 use Rattle.records.specs.declared.record.Eight.{Eight}
 use Rattle.records.specs.declared.record.TxFrame.{TxFrame}
 use Rattle.records.specs.declared.record.RxFrame.{RxFrame}
 use Rattle.records.specs.declared.record.Record.{Record}
-use Rattle.plan.specs.Tests.{isPrescaler, zeroPast, txInRange, rxInRange, inRange, frameFits, fitsNode}
+use Rattle.plan.specs.Tests.{isPrescaler, zeroPast, idInRange, txInRange, rxInRange, inRange, isLinId, frameFits, fitsNode}
 use Rattle.plan.proofs.TestLaws.{tx-ranges, rx-ranges}
 use Rattle.facts.specs.Good.{countOf}
 use Rattle.facts.specs.Statements.{State}
 use Rattle.refusals.specs.Before.{_or_, _and_, LinBefore}
-use Rattle.refusals.specs.Fields.{NoPrescaler, NotZeroPast, OutOfRange, OutOfLinRange}
+use Rattle.refusals.specs.Fields.{NoPrescaler, NotZeroPast, NoId, OutOfRange, NoLinId, OutOfLinRange}
 use Rattle.refusals.specs.Fields as F
 use Rattle.refusals.proofs.Passing.{Whole, head, node, tx-frame, rx-frame, signal, destination, countsIn}
 use Rattle.refusals.proofs.SoFar.{SoFar}
@@ -61,17 +63,29 @@ zeros size b =
     at : {i x : ℕ} → Fails (ltb i size || eqb x 0) ((size ≤ i) and (x ≢ 0))
     at = either (less _ _) (equal _ _)
 
+id-range : (id : Id) → Fails (idInRange id) (NoId id)
+unfolding idInRange
+id-range id = record { says = says id; back = back id }
+  where
+    says : (id : Id) → idInRange id ≡ false → NoId id
+    says (Standard n) e = F.standard n (less n 2048 .says e)
+    says (Extended n) e = F.extended n (less n 536870912 .says e)
+
+    back : (id : Id) → NoId id → idInRange id ≡ false
+    back id (F.standard n l) = less n 2048 .back l
+    back id (F.extended n l) = less n 536870912 .back l
+
 tx-range : (n : ℕ) (x : TxFrame)
     → Fails (txInRange n x)
-    ((n ≤ x .node) or (2047 < x .id) or (8 < x .size) or NoPrescaler (x .prescaler) or (3 < x .flags) or NotZeroPast (x .size) (x .payload))
+    ((n ≤ x .node) or NoId (x .id) or (8 < x .size) or NoPrescaler (x .prescaler) or (3 < x .flags) or NotZeroPast (x .size) (x .payload))
 unfolding txInRange
-tx-range n x = both (both (both (both (both (less _ _) (less _ _)) (most _ _)) (prescaler _)) (most _ _)) (zeros _ _)
+tx-range n x = both (both (both (both (both (less _ _) (id-range _)) (most _ _)) (prescaler _)) (most _ _)) (zeros _ _)
 
 rx-range : (n : ℕ) (x : RxFrame)
     → Fails (rxInRange n x)
-    ((n ≤ x .node) or (2047 < x .id) or (8 < x .size) or NoPrescaler (x .prescaler) or (1 < x .enable) or (63 < x .position) or (15 < x .long))
+    ((n ≤ x .node) or NoId (x .id) or (8 < x .size) or NoPrescaler (x .prescaler) or (1 < x .enable) or (63 < x .position) or (15 < x .long))
 unfolding rxInRange
-rx-range n x = both (both (both (both (both (both (less _ _) (less _ _)) (most _ _)) (prescaler _)) (most _ _)) (most _ _)) (most _ _)
+rx-range n x = both (both (both (both (both (both (less _ _) (id-range _)) (most _ _)) (prescaler _)) (most _ _)) (most _ _)) (most _ _)
 
 signal-range : (p z : ℕ) → Fails (leb p 63 && ltb 0 z && leb z 64) ((63 < p) or (z < 1) or (64 < z))
 signal-range p z = both (both (most _ _) (by (less 0 z) (λ l. omega arith) (λ l. omega arith))) (most _ _)
@@ -100,13 +114,25 @@ module _ (before : List Record) where
 
 -- ---- on a LIN node
 
+lin-id : (id : Id) → Fails (isLinId id) (NoLinId id)
+unfolding isLinId
+lin-id id = record { says = says id; back = back id }
+  where
+    says : (id : Id) → isLinId id ≡ false → NoLinId id
+    says (Standard n) e = F.standard n (less n 60 .says e)
+    says (Extended n) e = F.extended n
+
+    back : (id : Id) → NoLinId id → isLinId id ≡ false
+    back id (F.standard n l) = less n 60 .back l
+    back id (F.extended n) = refl
+
 module _ (before : List Record) (s : State) (h : SoFar before s) where
   frame-test :
-      (on id size : ℕ) → on < countsIn s .nodes
-      → Fails (frameFits (countsIn s .can) on id size) (LinBefore on before and ((59 < id) or (size < 1)))
+      (on : ℕ) (id : Id) (size : ℕ) → on < countsIn s .nodes
+      → Fails (frameFits (countsIn s .can) on id size) (LinBefore on before and (NoLinId id or (size < 1)))
   unfolding frameFits
   frame-test on id size l =
-      by (either (less on (countsIn s .can)) (both (less id 60) (by (less 0 size) (λ k. omega arith) (λ k. omega arith))))
+      by (either (less on (countsIn s .can)) (both (lin-id id) (by (less 0 size) (λ k. omega arith) (λ k. omega arith))))
       (λ w. (h .lin on (omega (arith, w .0, h .can)) (omega (arith, l, h .nodes)), w .1))
       (λ w. (omega (arith, h .above on (w .0), h .can), w .1))
 

@@ -14,9 +14,8 @@ use Rattle.records.specs.declared.record.SignalBody.{SignalBody}
 use Rattle.records.specs.declared.record.Record.{Record}
 use Rattle.records.specs.declared.record.Record.the-variants.{Rx, Signal}
 use Rattle.records.specs.Kinds.{stageOf}
-use Rattle.plan.specs.Limits.{idRange}
 use Rattle.plan.specs.declared.progress.RowSoFar.{RowSoFar}
-use Rattle.plan.specs.Progress.{keyOf, rowAfter, after}
+use Rattle.plan.specs.Progress.{rowKey, rowAfter, after}
 use Rattle.facts.specs.Good.{Each, countOf}
 use Rattle.facts.specs.Statements.{State, stepped, stateAfter}
 use Rattle.claims.specs.Claims.{IsDestination}
@@ -26,7 +25,7 @@ use Rattle.refusals.proofs.Passing.{Whole, head, node, tx-frame, rx-fra
 -- ---- the Rx frame that is being read: x was record number n, and since are the records after it
 
 pub record Reading (n : ℕ) (x : RxFrame) (since : List Record) (row : RowSoFar) : Type 0 where
-  pub floor : row .floor ≡ x .node * idRange + x .id + 1
+  pub floor : row .floor ≡ rowKey x + 1
   pub room : row .room ≡ 8 * x .size
   pub position : row .position ≡ x .position
   pub source : row .source ≡ n
@@ -84,7 +83,7 @@ signals (r ∷ rs) s d w = signals-by (s .progress .number) (rowIn s) r (w .0) (
 
 pub reading : (s : State) (n : ℕ) → s .progress .number ≡ n → (x : RxFrame) (since : List Record) → Each NoRx since → Each Whole since
     → Reading n x since (rowIn (stateAfter s (Rx x ∷ since)))
-unfolding stateAfter after rowAfter keyOf pick
+unfolding stateAfter after rowAfter pick
 reading s n e x since d w =
     let a = stays since (stepped s (Rx x)) d w in
     record {

@@ -10,8 +10,8 @@ use borrow.Author.Tests.{eq-eqb}
 use Rattle.base.specs.Pick.{pick}
 use Rattle.records.specs.declared.record.Record.{Record}
 use Rattle.records.specs.declared.record.Record.the-variants.{Rx, Signal}
+use Rattle.records.specs.Ids.{Possible}
 use Rattle.records.specs.Kinds.{stageOf}
-use Rattle.plan.specs.Limits.{idRange}
 use Rattle.plan.specs.Progress.{rowAfter, after, start}
 use Rattle.plan.specs.Tests.{inRange}
 use Rattle.plan.specs.Rows.{cansIn}
@@ -42,7 +42,7 @@ pub record SoFar (before : List Record) (s : State) : Type 0 where
   pub stands : Stand before (s .progress)
   pub reading : (x : RxBefore before) → Reading (length (x .front)) (x .frame) (x .since) (rowIn s)
   pub awaits : (x : RxBefore before) → x .frame .enable ≡ 1 → Awaiting (rowIn s .awaits) (x .since)
-  pub small : (x : RxBefore before) → x .frame .id < idRange
+  pub possible : (x : RxBefore before) → Possible (x .frame .id)
   pub cans : cansIn before ≤ countOf 2 before
   pub lin : (n : ℕ) → cansIn before ≤ n → n < countOf 2 before → LinBefore n before
   pub above : (n : ℕ) → LinBefore n before → (cansIn before ≤ n) × (n < countOf 2 before)
@@ -75,9 +75,9 @@ module _ (before : List Record) (g : AllGo begun before) where
         rw (x .split, past (x .front) (Rx (x .frame) ∷ x .since) begun)
         (awaiting (stepped (stateAfter begun (x .front)) (Rx (x .frame))) (x .since) (here .1) (x .last) (rw (eq-eqb (x .frame .enable) 1 on)))
 
-    below : x .frame .id < idRange
+    can-be : Possible (x .frame .id)
     unfolding AllGo inRange
-    below = rx-ranges _ (x .frame) (went (stateAfter begun (x .front)) (Rx (x .frame)) (here .0) .range) .id
+    can-be = rx-ranges _ (x .frame) (went (stateAfter begun (x .front)) (Rx (x .frame)) (here .0) .range) .id
 
   sizes-so : (x : SignalBefore before) → Sized (x .body .size) (x .destinations) (rowIn (stateAfter begun before))
   sizes-so x =
@@ -104,7 +104,7 @@ module _ (before : List Record) (g : AllGo begun before) where
             (record { rx = λ l. absurd (omega arith); signal = λ l. absurd (omega arith); floor = λ l. refl; awaits = λ l. refl });
         reading = reads;
         awaits = waits;
-        small = below;
+        possible = can-be;
         cans = few-cans before g;
         lin = lin-before before g;
         above = lin-above before g;

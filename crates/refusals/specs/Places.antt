@@ -10,14 +10,15 @@ use Rattle.records.specs.declared.record.DestinationBody.{DestinationBody}
 use Rattle.records.specs.declared.record.Record.{Record}
 use Rattle.records.specs.declared.record.Record.the-variants.{Head, Node, Tx, Rx, Signal, Destination, Broken}
 use Rattle.records.specs.declared.record.Fault.the-variants.{Cut}
+use Rattle.records.specs.Kinds.{txKind, rxKind}
 use Rattle.refusals.specs.Before.{RxBefore, LinBefore}
 
 -- the kind that a record's kind byte says, which one that is cut short has too; an unknown kind and the end have none
 pub data OfKind : ℕ → Record → Type 0 where
   head : (order : ℕ) → OfKind 1 (Head order)
   node : (body : NodeBody) → OfKind 2 (Node body)
-  tx-frame : (x : TxFrame) → OfKind 3 (Tx x)
-  rx-frame : (x : RxFrame) → OfKind 4 (Rx x)
+  tx-frame : (x : TxFrame) → OfKind (txKind (x .id)) (Tx x)
+  rx-frame : (x : RxFrame) → OfKind (rxKind (x .id)) (Rx x)
   signal : (g : SignalBody) → OfKind 5 (Signal g)
   destination : (t : DestinationBody) → OfKind 6 (Destination t)
   cut : (kind : ℕ) → OfKind kind (Broken (Cut kind))
@@ -34,7 +35,7 @@ pub record MissingFollower (before : List Record) (r : Record) : Type 0 where
   pub enabled : rx .frame .enable ≡ 1
   pub missing : NotFollowed (rx .since) r
 
--- ---- 2: "the kind is not 1–6"
+-- ---- 2: "the kind is not 1–6"; "2 begins past the new kinds", which are 7 and 8 (document 02, Ticket 6)
 
 abbrev pub UnknownKind : Record → Type 0
 UnknownKind r = (kind : ℕ) → OfKind kind r → ⊥

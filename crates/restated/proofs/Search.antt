@@ -9,6 +9,7 @@ use native.Mathlib.Omega.{arith}
 use borrow.Author.Tests.{eq-eqb, ne-eqb, lt-ltb, le-ltb}
 use lib.Pow.{pow-pos, pow-mono}
 use Rattle.base.specs.Pick.{pick}
+use Rattle.records.specs.Ids.{keyOf}
 use Rattle.reception.specs.declared.lookup.Found.the-variants.{Nothing}
 use Rattle.area.specs.Layout.{keyAt, rowCount}
 use Rattle.reception.specs.Lookup.{lookOnce, lookIn, lookedUp}
@@ -82,7 +83,7 @@ search-by-looks =
       half = look;
       suffice = λ k m area first place n key h l. enough m k area first place n key (omega (arith, pow-mono l)) h;
       each = λ k area first place n key h. enough (n + 1) k area first place n key (own n) h;
-      nine = λ area node id. enough (rowCount area node + 1) 9 area _ 0 (rowCount area node) id (own (rowCount area node)) (omega arith);
+      nine = λ area node id. enough (rowCount area node + 1) 9 area _ 0 (rowCount area node) (keyOf id) (own (rowCount area node)) (omega arith);
     }
   where
     own : (n : ℕ) → n < 2 ^ (n + 1)

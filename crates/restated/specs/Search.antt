@@ -3,6 +3,8 @@ use mathlib.Core.Path.{_≡_}
 use mathlib.Core.List.{List}
 use mathlib.Core.Logic.{_⊎_}
 use Prim.Native.Nat.{ℕ, suc, _+_, _^_, _≤_, _<_}
+use Rattle.records.specs.declared.record.Id.{Id}
+use Rattle.records.specs.Ids.{keyOf}
 use Rattle.reception.specs.declared.lookup.Found.the-variants.{At, Nothing}
 use Rattle.area.specs.Layout.{keyAt, firstRow, rowCount}
 use Rattle.reception.specs.Lookup.{lookIn, lookedUp}
@@ -38,4 +40,4 @@ pub record SearchByLooks : Type 0 where
   -- among them as many looks as there are rows, and one
   pub each : (k : ℕ) (area : List ℕ) (first place n key : ℕ) → n < 2 ^ k → lookIn (n + 1) area first place n key ≡ lookIn k area first place n key
   -- so for a node's rows, of which no area says that they are 512 or more, nine do
-  pub nine : (area : List ℕ) (node id : ℕ) → lookedUp area node id ≡ lookIn 9 area (firstRow area node) 0 (rowCount area node) id
+  pub nine : (area : List ℕ) (node : ℕ) (id : Id) → lookedUp area node id ≡ lookIn 9 area (firstRow area node) 0 (rowCount area node) (keyOf id)

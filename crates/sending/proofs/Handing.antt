@@ -12,6 +12,8 @@ use Rattle.base.specs.Pick.{pick}
 use Rattle.base.specs.Numbers.{byteAt}
 use Rattle.base.proofs.Picks.{picks, passes, by-eqb}
 use Rattle.base.proofs.Ranges.{at-most-le}
+use Rattle.records.specs.declared.record.Id.{Id}
+use Rattle.records.specs.Ids.{plainId}
 use Rattle.lin.specs.Identifier.{protectedOf}
 use Rattle.lin.specs.Checksum.{checksumOf}
 use Rattle.records.specs.Records.{records}
@@ -32,8 +34,8 @@ use Rattle.sending.proofs.Moves.{Ready}
 use Rattle.sending.proofs.Takes.{leaves, oldest-can}
 
 -- what goes with a frame of this ID and payload, by the type of node n
-abbrev pub framingIn : List ℕ → ℕ → ℕ → List ℕ → Framing
-framingIn plan n id payload = pick (isLin (typeAt plan n)) (Lin (protectedOf id) (checksumOf (protectedOf id) payload)) Can
+abbrev pub framingIn : List ℕ → ℕ → Id → List ℕ → Framing
+framingIn plan n id payload = pick (isLin (typeAt plan n)) (Lin (protectedOf (plainId id)) (checksumOf (protectedOf (plainId id)) payload)) Can
 
 -- a frame of node n with this payload, and a request, as they leave: what the plan says of them, and how many still wait
 abbrev pub frameTaken : List ℕ → ℕ → ℕ → List ℕ → ℕ → Taken
@@ -44,7 +46,7 @@ frameTaken plan n t payload waiting =
 abbrev pub requestTaken : List ℕ → ℕ → ℕ → Taken
 requestTaken plan r waiting =
     let x = rowAt plan r .frame in
-    taken.Request (record { rx = record { 0 = r }; id = x .id; size = x .size; waiting = waiting; protected = protectedOf (x .id) })
+    taken.Request (record { rx = record { 0 = r }; id = x .id; size = x .size; waiting = waiting; protected = protectedOf (plainId (x .id)) })
 
 -- "none, or the oldest waiting frame, which then waits no more: its Tx number, ID, size, how many still wait on that node"; "A take answers a request
 -- (Rx number, ID, size, waiting count ..) or a frame" (document 02, Ticket 2)
@@ -119,7 +121,7 @@ module _ {plan a : List ℕ} (reads : Reads plan a) (ready : Ready plan a) (n : 
     left : queueOf (takenArea a n) n ≡ rest
     left = rw area (let l = leaves ready n below some in cc)
 
-  framing : (id : ℕ) (payload : List ℕ) → framingOf a n id payload ≡ framingIn plan n id payload
+  framing : (id : Id) (payload : List ℕ) → framingOf a n id payload ≡ framingIn plan n id payload
   unfolding framingOf
   framing id payload = rw (reads .header .types n h)
 

@@ -6,7 +6,7 @@ use Prim.Native.Nat.{ℕ, _+_, _≤_, _<_}
 use native.Mathlib.Omega.{arith}
 use lib.ListN.{length-append, List·getD-append}
 use Rattle.base.specs.Numbers.{byteAt}
-use Rattle.area.specs.Layout.{counterByte, queuesStart, txReloadsStart, waitsStart, payloadsStart, planStart, waiterRange, queue, waits}
+use Rattle.area.specs.Layout.{counterByte, queuesStart, txReloadsStart, waitsStart, payloadsStart, masksEnd, waiterRange, queue, waits}
 use Rattle.area.specs.Queue.{endsOf, queueOf}
 use Rattle.area.proofs.Frame.{Same, same-two, same-fewer}
 use Rattle.area.proofs.Kept.{Kept, kept-refl, kept-then}
@@ -59,7 +59,7 @@ module _ {plan a : List ℕ} where
 -- all places but the reload values, timers and long counters, the payloads and masks, and the counter
 pub record Resting (j : ℕ) : Type 0 where
   pub timers : txReloadsStart ≤ j → j < waitsStart → ⊥
-  pub payloads : payloadsStart ≤ j → j < planStart → ⊥
+  pub payloads : payloadsStart ≤ j → j < masksEnd → ⊥
   pub count : j ≡ counterByte → ⊥
 
 abbrev pub Rests : List ℕ → List ℕ → Type 0
@@ -77,7 +77,7 @@ module _ {a b : List ℕ} (s : Rests a b) where
   mark-rests k h = s .at (waits k) (omega arith)
 
   kept-rests : Kept a b
-  kept-rests = same-fewer (λ j p. record { timers = λ x y. p .low x (omega arith); payloads = λ x y. p .high (omega arith) y; count = p .count }) s
+  kept-rests = same-fewer (λ j p. record { timers = λ x y. p .low x (omega arith); payloads = λ x y. p .high (omega arith) (omega arith); count = p .count }) s
 
   pub moves-rests : {plan : List ℕ} → Ready plan a → Moves plan a b
   moves-rests r =

@@ -4,7 +4,6 @@ use mathlib.Core.Path.{_≡_, refl, _∙_}
 use mathlib.Core.Logic.{_≢_}
 use mathlib.Core.List.{List, [], _∷_, _++_}
 use Prim.Native.Nat.{ℕ, _+_, _%_, _<_}
-use native.Mathlib.Nat.{mod-eq-of-lt}
 use native.Mathlib.Decide.{ℕ-discrete}
 use native.Mathlib.Omega.{arith}
 use borrow.Author.Tests.{eq-eqb}
@@ -13,7 +12,7 @@ use Rattle.base.specs.Numbers.{byteAt}
 use Rattle.base.proofs.Picks.{picks}
 use Rattle.records.specs.declared.record.NodeType.the-variants.{Lin}
 use Rattle.plan.specs.Rows.{rowsOf}
-use Rattle.area.specs.Layout.{requestsStart, waits, rxFrame}
+use Rattle.area.specs.Layout.{requestsStart, waits, homeNode}
 use Rattle.area.specs.Queue.{requested, queueOf}
 use Rattle.area.proofs.QueueLaws.{requested-waiting, queue-requested}
 use Rattle.tables.specs.Reads.{rowAt, typeAt}
@@ -40,8 +39,8 @@ module _ {plan a : List ℕ} (ready : Ready plan a) (r : ℕ) (h : r < length (r
   few : r < 256
   few = omega (arith, holding .fit .rx)
 
-  here : rxFrame a r .node % 16 ≡ n
-  here = rw (holding .row r h) (mod-eq-of-lt below)
+  here : homeNode a k ≡ n
+  here = holding .rowHome r h
 
   module _ (free : byteAt a (waits k) ≡ 0) where
     pub joins : queueOf (requested a r) n ≡ queueOf a n ++ (k ∷ [])

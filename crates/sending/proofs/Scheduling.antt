@@ -3,7 +3,6 @@ use mathlib.Core.Path.{_≡_, refl, _∙_}
 use mathlib.Core.Logic.{_≢_}
 use mathlib.Core.List.{List, [], _∷_, _++_}
 use Prim.Native.Nat.{ℕ, _%_, _<_}
-use native.Mathlib.Nat.{mod-eq-of-lt}
 use native.Mathlib.Decide.{ℕ-discrete}
 use native.Mathlib.Omega.{arith}
 use borrow.Author.Tests.{eq-eqb}
@@ -12,7 +11,7 @@ use lib.Seq.{getD-set-same}
 use Rattle.base.specs.Numbers.{byteAt}
 use Rattle.base.proofs.Picks.{picks}
 use Rattle.plan.specs.Rows.{txOf}
-use Rattle.area.specs.Layout.{waits, txReload, txTimer, txFrame}
+use Rattle.area.specs.Layout.{waits, txReload, txTimer, homeNode}
 use Rattle.area.specs.Queue.{scheduled, queueOf}
 use Rattle.area.proofs.Frame.{same-refl, same-set}
 use Rattle.area.proofs.QueueLaws.{scheduled-waiting, queue-scheduled}
@@ -40,8 +39,8 @@ module _ {plan a : List ℕ} (r : Ready plan a) (t : ℕ) (h : t < length (txOf 
   few : t < 256
   few = omega (arith, holding .fit .tx)
 
-  here : txFrame a t .node % 16 ≡ n
-  here = rw (holding .frame t h) (mod-eq-of-lt below)
+  here : homeNode a t ≡ n
+  here = holding .frameHome t h
 
   module _ (free : byteAt a (waits t) ≡ 0) where
     pub joins : queueOf b n ≡ queueOf a n ++ (t ∷ [])

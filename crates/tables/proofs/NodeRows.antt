@@ -77,7 +77,7 @@ module _ (at : ℕ) (x : RxFrame) (a : List ℕ) where
   same-rowed =
       same-then
       (leaves-rx-timer _ x a (omega arith) (omega arith) (omega arith) (omega arith))
-      (leaves-row _ at x _ (omega arith) (omega arith))
+      (leaves-row _ at x _ (omega arith) (omega arith) (omega arith))
 
   module _ (n : ℕ) (is : x .node % 16 ≡ n) (l : LongEnough a) where
     abbrev before-first : first rowed n ≡ first a n

@@ -23,9 +23,9 @@ use Rattle.plan.proofs.TestLaws.{tx-ranges, rx-ranges}
 use Rattle.facts.specs.Good.{Each, InPlace}
 use Rattle.facts.proofs.Places.{later}
 use Rattle.area.specs.Layout.{orderByte, canCountByte, txCountBytes, rxCountBytes, nodesStart, queuesStart, txReloadsStart, LongEnough}
-use Rattle.area.specs.Layout.{queue, txPlace, canCount}
+use Rattle.area.specs.Layout.{queue, canCount}
 use Rattle.area.proofs.Frame.{Same, same-refl, same-then, same-set, same-setLow, same-two}
-use Rattle.opening.specs.Opened.{nextTx, nextRx, withTxTimer, withPayload, withFrame, withTx, withRxTimer, withRow, withNodeRow, withRequest, withRx}
+use Rattle.opening.specs.Opened.{nextTx, nextRx, withTxTimer, withPayload, withFrame, withTxPlace, withTx, withRxTimer, withRow, withNodeRow, withRequest, withRx}
 use Rattle.opening.specs.Opened.{withRecord, withRecords}
 use Rattle.opening.proofs.Kept.{same-records}
 use Rattle.opening.proofs.Counted.{one-more, counts}
@@ -71,7 +71,7 @@ module _ (n : ℕ) (h : n < 16) where
   own-tx : (at : ℕ) (x : TxFrame) (a : List ℕ) → LongEnough a → counted n a + 1 < 65536 → x .node % 16 ≡ n → counted n (withTx at x a) ≡ counted n a + 1
   unfolding withTx
   own-tx at x a long most is =
-      let c = withPayload (nextTx a) (x .payload) (withTxTimer (nextTx a) x (setLow a (txPlace (nextTx a)) at)) in
+      let c = withPayload (nextTx a) (x .payload) (withTxTimer (nextTx a) x (withTxPlace (nextTx a) at x a)) in
       let s : Same (Room n) a c = same-own (nextTx a) at x a (omega arith) in
       let e = same-two s (queue n + 2) (omega arith) (omega arith) in
       rw is (past-count txCountBytes _ (withFrame n c) (omega arith) ∙ more-frame c (omega (arith, s .len)) (omega arith) ∙ omega arith)
@@ -94,7 +94,7 @@ module _ (n : ℕ) (h : n < 16) where
       let c = withNodeRow n (nextRx a) (withRow (nextRx a) at x (withRxTimer (nextRx a) x a)) in
       let s : Same (λ j. (nodesStart ≤ j → queuesStart ≤ j) × (j < txReloadsStart)) a c =
       same-then (leaves-rx-timer (nextRx a) x a (omega arith) (omega arith) (omega arith) (omega arith))
-      (same-then (leaves-row (nextRx a) at x _ (omega arith) (omega arith))
+      (same-then (leaves-row (nextRx a) at x _ (omega arith) (omega arith) (omega arith))
       (leaves-node-row n (nextRx a) _ (λ j lo hi p. omega (arith, p .0 (omega arith))))) in
       let e : counted n c ≡ counted n a = same-two s (queue n + 2) (λ l. omega arith, omega arith) (λ l. omega arith, omega arith) in
       let can : canCount c ≡ canCount a = s .at canCountByte (λ l. omega arith, omega arith) in

@@ -7,7 +7,9 @@ use native.Mathlib.Omega.{arith}
 use lib.ListN.{length, getD}
 use Rattle.records.specs.declared.record.Record.{Record}
 use Rattle.records.specs.Records.{records}
-use Rattle.plan.specs.Progress.{keyOf}
+use Rattle.records.specs.Ids.{Possible, Before, keyOf}
+use Rattle.records.proofs.IdLaws.{key-four, key-before}
+use Rattle.plan.specs.Progress.{rowKey}
 use Rattle.plan.specs.Tests.{inRange}
 use Rattle.plan.specs.Rows.{Row, rowOf, rowsFrom, rowsOf, nodesIn, noRow}
 use Rattle.plan.proofs.TestLaws.{RxRanges, rx-ranges}
@@ -29,11 +31,11 @@ rows-range m n (r ∷ rs) h = go (kind 0 r) (λ k. rows-range m k rs (h .1))
     go (other none s) ih = rw (none n rs) (ih n)
 
 rising-at :
-    (rows : List Row) (d : Row) (i j : ℕ) → Rising rows → i < j → j < length rows → keyOf (getD rows i d .frame) < keyOf (getD rows j d .frame)
+    (rows : List Row) (d : Row) (i j : ℕ) → Rising rows → i < j → j < length rows → rowKey (getD rows i d .frame) < rowKey (getD rows j d .frame)
 unfolding Rising
 rising-at [] d i j s l h = absurd (omega arith)
 rising-at (r ∷ rs) d i zero s l h = absurd (omega arith)
-rising-at (r ∷ rs) d zero (suc j) s l h = each-at (λ (q : Row). keyOf (r .frame) < keyOf (q .frame)) rs d j (omega arith) (s .0)
+rising-at (r ∷ rs) d zero (suc j) s l h = each-at (λ (q : Row). rowKey (r .frame) < rowKey (q .frame)) rs d j (omega arith) (s .0)
 rising-at (r ∷ rs) d (suc i) (suc j) s l h = rising-at rs d i j (s .1) (omega arith) (omega arith)
 
 module _ (plan : List ℕ) (good : GoodPlan plan) where
@@ -44,13 +46,19 @@ module _ (plan : List ℕ) (good : GoodPlan plan) where
   pub row-node : (r : ℕ) → r < length (rowsOf plan) → rowAt plan r .frame .node < 16
   row-node r h = omega (arith, row-ranges r h .node, good .counts .nodes)
 
+  pub row-possible : (r : ℕ) → r < length (rowsOf plan) → Possible (rowAt plan r .frame .id)
+  row-possible r h = row-ranges r h .id
+
   module _ (i j : ℕ) (l : i < j) (h : j < length (rowsOf plan)) where
     pub nodes-rise : rowAt plan i .frame .node ≤ rowAt plan j .frame .node
-    unfolding keyOf
+    unfolding rowKey
     nodes-rise =
-        let first : i < length (rowsOf plan) = omega arith in
-        omega (arith, rising-at (rowsOf plan) noRow i j (good .rising) l h, row-ranges i first .id, row-ranges j h .id)
+        omega (arith, rising-at (rowsOf plan) noRow i j (good .rising) l h, key-four (rowAt plan i .frame .id), key-four (rowAt plan j .frame .id))
 
-    pub ids-rise : rowAt plan i .frame .node ≡ rowAt plan j .frame .node → rowAt plan i .frame .id < rowAt plan j .frame .id
-    unfolding keyOf
-    ids-rise e = omega (arith, rising-at (rowsOf plan) noRow i j (good .rising) l h)
+    -- the one fact about ordered rows: within a node their keys rise
+    pub keys-rise : rowAt plan i .frame .node ≡ rowAt plan j .frame .node → keyOf (rowAt plan i .frame .id) < keyOf (rowAt plan j .frame .id)
+    unfolding rowKey
+    keys-rise e = omega (arith, rising-at (rowsOf plan) noRow i j (good .rising) l h)
+
+    pub ids-rise : rowAt plan i .frame .node ≡ rowAt plan j .frame .node → Before (rowAt plan i .frame .id) (rowAt plan j .frame .id)
+    ids-rise e = key-before _ _ (row-possible i (omega arith)) .0 (keys-rise e)

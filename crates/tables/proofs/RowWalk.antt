@@ -9,8 +9,6 @@ use Rattle.base.specs.Numbers.{byteAt, lowAt}
 use Rattle.records.specs.declared.record.RxFrame.{RxFrame}
 use Rattle.records.specs.declared.record.Record.{Record}
 use Rattle.records.specs.declared.record.Record.the-variants.{Rx}
-use Rattle.base.specs.Pick.{pick}
-use Rattle.records.specs.Kinds.{rxBytes, formOf, lengthOf, kindOf}
 use Rattle.records.specs.Records.{recordAt, sizeOf, recordsAt, records}
 use Rattle.plan.specs.Check.{setsOf}
 use Rattle.plan.specs.Rows.{rowOf, rowsFrom, rowsOf, noRow}
@@ -29,8 +27,8 @@ pub record Meets (plan : List ℕ) (k at : ℕ) (x : RxFrame) (a : List ℕ) : T
   pub here : at < length plan
   pub reads : recordAt plan at ≡ Rx x
   pub exists : k < length (rowsOf plan)
-  pub row : rowAt plan k ≡ rowOf k x (recordsAt plan (at + rxBytes))
-  pub sound : Sound (Rx x ∷ recordsAt plan (at + rxBytes))
+  pub row : rowAt plan k ≡ rowOf k x (recordsAt plan (at + sizeOf (Rx x)))
+  pub sound : Sound (Rx x ∷ recordsAt plan (at + sizeOf (Rx x)))
   pub next : nextRx a ≡ k
   pub size : LongEnough a
 
@@ -69,7 +67,6 @@ module _ (plan : List ℕ) (rs : List Record) (at k : ℕ) (a : List ℕ) where
     here-rows = l .rows ∙ drop-cons (rowsOf plan) k noRow more-rows
 
     meets : Meets plan k at x a
-    unfolding formOf lengthOf kindOf sizeOf pick
     meets =
         let e = here-rows in
         let h = records-head plan at (Rx x) rs (l .reads) in
@@ -83,8 +80,8 @@ module _ (plan : List ℕ) (rs : List Record) (at k : ℕ) (a : List ℕ) where
           size = l .size;
         }
 
-    left-frame : Left plan rs (at + rxBytes) (suc k) (withRx at x a)
-    unfolding formOf lengthOf kindOf sizeOf pick withRecords withRecord rowsFrom
+    left-frame : Left plan rs (at + sizeOf (Rx x)) (suc k) (withRx at x a)
+    unfolding withRecords withRecord rowsFrom
     left-frame =
         let e = here-rows in
         let c = counts at (Rx x ∷ []) a (omega (arith, l .size)) .rx 0 (omega (arith, l .count, more-rows)) in
@@ -120,7 +117,7 @@ module _
     step :
         (r : Record) (rs : List Record) (at k : ℕ) (a : List ℕ) → Left plan (r ∷ rs) at k a → Q k a → Kind at r
         → After plan Q rs (at + sizeOf r) (withRecord at r a)
-    unfolding withRecord formOf lengthOf kindOf sizeOf pick
+    unfolding withRecord
     step r rs at k a l q (frame x e) =
         let m : Left plan (Rx x ∷ rs) at k a = rw e at l in
         let few = good .counts .rx in

@@ -8,19 +8,17 @@ use native.Mathlib.Omega.{arith}
 use lib.ListN.{length}
 use Rattle.records.specs.declared.record.RxFrame.{RxFrame}
 use Rattle.records.specs.declared.record.Record.the-variants.{Rx}
-use Rattle.records.specs.Kinds.{rxBytes}
-use Rattle.records.specs.Records.{recordAt, recordsAt}
+use Rattle.records.specs.Records.{recordAt, sizeOf, recordsAt}
 use Rattle.plan.specs.Rows.{rowOf, rowsOf}
 use Rattle.facts.specs.Good.{GoodPlan}
-use Rattle.area.specs.Layout.{rxReloadsStart, txTimersStart, rxTimersStart, longStart, waitsStart, fullStart, keysStart, rxPlacesStart, rowsEnd}
-use Rattle.area.specs.Layout.{payloadsStart, rxMasksStart, LongEnough, rxReload, rxTimer, long, key, rxPlace, rxMask}
+use Rattle.area.specs.Layout.{rxReloadsStart, txTimersStart, rxTimersStart, longStart, waitsStart, fullStart, keysStart, rxPlacesStart}
+use Rattle.area.specs.Layout.{homesStart, homesEnd, payloadsStart, rxMasksStart, requestsStart, LongEnough, rxReload, rxTimer, long, key, rxPlace, home, rxMask}
 use Rattle.area.proofs.Frame.{Same, same-fewer, same-two}
 use Rattle.opening.specs.Opened.{withRx, opened}
 use Rattle.tables.specs.Reads.{rowAt}
-use Rattle.tables.proofs.Verbatim.{Sound}
+use Rattle.tables.proofs.Verbatim.{Sound, rx-ends}
 use Rattle.tables.proofs.RxSide.{RxClear, leaves-rx, RxSide}
 use Rattle.tables.proofs.RowWalk.{Meets, opened-walk}
-use Rattle.tables.proofs.RowFacts.{row-ranges}
 use Rattle.tables.proofs.RxPut.{Put, put-one}
 
 -- ---- the places of the Rx frames below k, which no later record writes
@@ -33,13 +31,15 @@ record Below (k j : ℕ) : Type 0 where
   long : longStart ≤ j → j < waitsStart → j < long k
   middle : fullStart ≤ j → keysStart ≤ j
   key : keysStart ≤ j → j < rxPlacesStart → j < key k
-  place : rxPlacesStart ≤ j → j < rowsEnd → j < rxPlace k
+  place : rxPlacesStart ≤ j → j < homesStart → j < rxPlace k
+  homes : homesStart ≤ j → home requestsStart ≤ j
+  home : home requestsStart ≤ j → j < homesEnd → j < home (requestsStart + k)
   high : payloadsStart ≤ j → rxMasksStart ≤ j
   mask : rxMasksStart ≤ j → j < rxMask k
 
 below-side : (k j : ℕ) → Below k j → RxSide j
 below-side k j p =
-    record { header = omega (arith, p .tables); low = λ m. p .tables; timers = p .timers; middle = p .middle; high = p .high }
+    record { header = omega (arith, p .tables); low = λ m. p .tables; timers = p .timers; middle = p .middle; homes = p .homes; high = p .high }
 
 below-clear : (k n : ℕ) → k < 256 → n < 16 → RxClear (Below k) k n
 below-clear k n h l =
@@ -52,6 +52,7 @@ below-clear k n h l =
       long = λ j lo hi p. omega (arith, p .long (omega arith) (omega arith));
       key = λ j lo hi p. omega (arith, p .key (omega arith) (omega arith));
       place = λ j lo hi p. omega (arith, p .place (omega arith) (omega arith));
+      home = λ j lo hi p. omega (arith, p .home (omega arith) (omega arith));
       mask = λ j lo hi p. omega (arith, p .mask (omega arith));
     }
 
@@ -65,6 +66,7 @@ put-kept k r at x l h s p =
       low = same-two s (key r) (omega arith) (omega arith) ∙ p .low;
       high = same-two s (key r + 2) (omega arith) (omega arith) ∙ p .high;
       place = same-two s (rxPlace r) (omega arith) (omega arith) ∙ p .place;
+      home = s .at _ (omega arith) ∙ p .home;
     }
 
 -- ---- all frames
@@ -74,8 +76,8 @@ pub record Stands (plan a : List ℕ) (r : ℕ) : Type 0 where
   pub at : ℕ
   pub frame : RxFrame
   pub reads : recordAt plan at ≡ Rx frame
-  pub row : rowAt plan r ≡ rowOf r frame (recordsAt plan (at + rxBytes))
-  pub sound : Sound (Rx frame ∷ recordsAt plan (at + rxBytes))
+  pub row : rowAt plan r ≡ rowOf r frame (recordsAt plan (at + sizeOf (Rx frame)))
+  pub sound : Sound (Rx frame ∷ recordsAt plan (at + sizeOf (Rx frame)))
   pub put : Put a r at frame
 
 abbrev AllStand : List ℕ → ℕ → List ℕ → Type 0
@@ -97,7 +99,6 @@ module _ (plan : List ℕ) (good : GoodPlan plan) (short : length plan ≤ 65536
   stand-more : (k at : ℕ) (x : RxFrame) (a : List ℕ) → Meets plan k at x a → AllStand plan k a → AllStand plan (suc k) (withRx at x a)
   unfolding rowOf
   stand-more k at x a m all r l =
-      let small : x .id < 2048 = rw (m .row) at (row-ranges plan good k (m .exists) .id) in
       let most : k < 256 = omega (arith, m .exists, good .counts .rx) in
       ⊎-elim
       (λ (e : r ≡ k).
@@ -108,7 +109,7 @@ module _ (plan : List ℕ) (good : GoodPlan plan) (short : length plan ≤ 65536
         reads = m .reads;
         row = m .row;
         sound = m .sound;
-        put = rw (m .next) at (put-one at x a (m .size) small (omega (arith, m .here)));
+        put = rw (m .next) at (put-one at x a (m .size) (omega (arith, rx-ends plan at x (m .reads))));
       }))
       (λ (b : r < k).
       stand-kept plan k a (withRx at x a) (omega arith) (leaves-rx at x a (rw (m .next) (below-clear k (x .node % 16) most (omega arith)))) all r b)

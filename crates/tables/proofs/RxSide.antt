@@ -12,11 +12,11 @@ use Rattle.records.specs.declared.record.Record.{Record}
 use Rattle.records.specs.declared.record.Record.the-variants.{Head, Node, Tx, Rx, Signal, Destination, Broken}
 use Rattle.plan.specs.Rows.{rowsFrom}
 use Rattle.area.specs.Layout.{nodeCountByte, canCountByte, txCountBytes, rxCountBytes, headerEnd, queuesStart, rxReloadsStart, txTimersStart}
-use Rattle.area.specs.Layout.{rxTimersStart, fullStart, keysStart, payloadsStart, rxMasksStart}
-use Rattle.area.specs.Layout.{node, queue, rxReload, rxTimer, long, key, rxPlace, payload, rxMask}
+use Rattle.area.specs.Layout.{rxTimersStart, fullStart, keysStart, homesStart, payloadsStart, rxMasksStart, requestsStart}
+use Rattle.area.specs.Layout.{node, queue, rxReload, rxTimer, long, key, rxPlace, home, payload, rxMask}
 use Rattle.area.proofs.Frame.{Same, same-refl, same-then, same-set, same-setLow, same-pick}
-use Rattle.opening.specs.Opened.{withTxTimer, withPayload, withFrame, withTx, withRecord, withRings, withFullness}
-use Rattle.opening.specs.Opened.{nextRx, withRxTimer, withRow, withNodeRow, withRequest, withRx, withCan, withNode}
+use Rattle.opening.specs.Opened.{withTxTimer, withPayload, withFrame, withTxPlace, withTx, withRecord, withRings, withFullness}
+use Rattle.opening.specs.Opened.{nextRx, withRxTimer, withKey, withRow, withNodeRow, withRequest, withRx, withCan, withNode}
 
 -- P names no place from low to before high
 abbrev pub Clear : (ℕ → Type 0) → ℕ → ℕ → Type 0
@@ -40,11 +40,12 @@ module _ {P : ℕ → Type 0} where
       (put timer _ _ (omega arith) (omega arith) (put reload _ _ (omega arith) (omega arith) (same-refl a))))
 
   pub leaves-row :
-      (r at : ℕ) (x : RxFrame) (a : List ℕ) → Clear P (key r) (key r + 4) → Clear P (rxPlace r) (rxPlace r + 2) → Same P a (withRow r at x a)
-  unfolding withRow
-  leaves-row r at x a key place =
-      put-two place _ _ (omega arith) (omega arith)
-      (put-two key _ _ (omega arith) (omega arith) (put-two key _ _ (omega arith) (omega arith) (same-refl a)))
+      (r at : ℕ) (x : RxFrame) (a : List ℕ) → Clear P (key r) (key r + 4) → Clear P (rxPlace r) (rxPlace r + 2)
+      → Clear P (home (requestsStart + r)) (home (requestsStart + r) + 1) → Same P a (withRow r at x a)
+  unfolding withRow withKey
+  leaves-row r at x a key place home =
+      put home _ _ (omega arith) (omega arith) (put-two place _ _ (omega arith) (omega arith)
+      (put-two key _ _ (omega arith) (omega arith) (put-two key _ _ (omega arith) (omega arith) (same-refl a))))
 
   -- a node record: the two counts
   pub leaves-node : (type : ℕ) (a : List ℕ) → Clear P nodeCountByte txCountBytes → Same P a (withNode type a)
@@ -73,6 +74,7 @@ pub record RxClear (P : ℕ → Type 0) (r n : ℕ) : Type 0 where
   pub long : Clear P (long r) (long r + 1)
   pub key : Clear P (key r) (key r + 4)
   pub place : Clear P (rxPlace r) (rxPlace r + 2)
+  pub home : Clear P (home (requestsStart + r)) (home (requestsStart + r) + 1)
   pub mask : Clear P (rxMask r) (rxMask r + 1)
 
 pub leaves-rx : {P : ℕ → Type 0} (at : ℕ) (x : RxFrame) (a : List ℕ) → RxClear P (nextRx a) (x .node % 16) → Same P a (withRx at x a)
@@ -80,20 +82,21 @@ unfolding withRx
 leaves-rx at x a c =
     put-two (c .count) _ _ (omega arith) (omega arith)
     (same-then (leaves-rx-timer _ x a (c .reload) (c .timer) (c .long) (c .mask))
-    (same-then (leaves-row _ at x _ (c .key) (c .place))
+    (same-then (leaves-row _ at x _ (c .key) (c .place) (c .home))
     (same-then (leaves-node-row _ _ _ (c .node)) (leaves-request _ _ (c .room)))))
 
 pub rx-length : (at : ℕ) (x : RxFrame) (a : List ℕ) → length (withRx at x a) ≡ length a
 rx-length at x a = leaves-rx {P = λ j. ⊥} at x a (omega arith) .len
 
 -- ---- the places that only Rx frames write, by what they are not: header, queues and Tx reload values, Tx timers, fullness and Tx places,
--- payloads and Tx masks
+-- homes of Tx frames, payloads and Tx masks
 
 pub record RxSide (j : ℕ) : Type 0 where
   pub header : rxCountBytes ≤ j
   pub low : queuesStart ≤ j → rxReloadsStart ≤ j
   pub timers : txTimersStart ≤ j → rxTimersStart ≤ j
   pub middle : fullStart ≤ j → keysStart ≤ j
+  pub homes : homesStart ≤ j → home requestsStart ≤ j
   pub high : payloadsStart ≤ j → rxMasksStart ≤ j
 
 header-clear : Clear RxSide 0 rxCountBytes
@@ -107,6 +110,9 @@ timers-clear j l h p = omega (arith, p .timers l)
 
 middle-clear : Clear RxSide fullStart keysStart
 middle-clear j l h p = omega (arith, p .middle l)
+
+homes-clear : Clear RxSide homesStart (home requestsStart)
+homes-clear j l h p = omega (arith, p .homes l)
 
 high-clear : Clear RxSide payloadsStart rxMasksStart
 high-clear j l h p = omega (arith, p .high l)
@@ -127,11 +133,16 @@ leaves-payload t b a h =
     (in-payload t 3 _ h (omega arith) (in-payload t 2 _ h (omega arith) (in-payload t 1 _ h (omega arith)
     (put high-clear _ _ (omega arith) (omega arith) (same-refl a))))))))
 
+leaves-tx-place : (t at : ℕ) (x : TxFrame) (a : List ℕ) → t < 256 → Same RxSide a (withTxPlace t at x a)
+unfolding withTxPlace
+leaves-tx-place t at x a h =
+    put homes-clear _ _ (omega arith) (omega arith) (put-two middle-clear _ _ (omega arith) (omega arith) (same-refl a))
+
 leaves-tx : (at : ℕ) (x : TxFrame) (a : List ℕ) → Same RxSide a (withTx at x a)
 unfolding withTx withFrame
 leaves-tx at x a =
     put-two header-clear _ _ (omega arith) (omega arith) (put-two low-clear _ _ (omega arith) (omega arith)
-    (same-then (put-two middle-clear _ _ (omega arith) (omega arith) (same-refl a))
+    (same-then (leaves-tx-place _ at x a (omega arith))
     (same-then (leaves-tx-timer _ x _ (omega arith)) (leaves-payload _ (x .payload) _ (omega arith)))))
 
 leaves-rings : (n : ℕ) (a : List ℕ) → n ≤ 16 → Same RxSide a (withRings n a)

@@ -12,15 +12,14 @@ use Rattle.records.specs.declared.record.RxFrame.{RxFrame}
 use Rattle.records.specs.declared.record.Record.{Record}
 use Rattle.records.specs.declared.record.Record.the-variants.{Head, Node, Tx, Rx, Signal, Destination, Broken}
 use Rattle.base.specs.Pick.{pick}
-use Rattle.records.specs.Kinds.{txBytes, formOf, lengthOf, kindOf}
 use Rattle.records.specs.Records.{sizeOf, eightBytes}
 use Rattle.plan.specs.Rows.{txFrames}
 use Rattle.area.specs.Layout.{txCountBytes, rxCountBytes, queuesStart, rxReloadsStart, txTimersStart, rxTimersStart, waitsStart}
-use Rattle.area.specs.Layout.{fullStart, txPlacesStart, keysStart, rowsEnd, rxMasksStart, masksEnd}
-use Rattle.area.specs.Layout.{queue, txReload, txTimer, txPlace, payload, txMask}
+use Rattle.area.specs.Layout.{fullStart, txPlacesStart, keysStart, homesStart, homesEnd, rxMasksStart, masksEnd, requestsStart}
+use Rattle.area.specs.Layout.{queue, txReload, txTimer, txPlace, home, payload, txMask}
 use Rattle.area.proofs.Frame.{Same, same-refl, same-then, same-set, same-pick}
-use Rattle.opening.specs.Opened.{nextTx, withTxTimer, withPayload, withFrame, withTx, withRxTimer}
-use Rattle.opening.specs.Opened.{withRow, withNodeRow, withRx, withRecord, withRings, withFullness}
+use Rattle.opening.specs.Opened.{nextTx, withTxTimer, withPayload, withFrame, withTxPlace, withTx, withRxTimer}
+use Rattle.opening.specs.Opened.{withKey, withRow, withNodeRow, withRx, withRecord, withRings, withFullness}
 use Rattle.tables.proofs.Stored.{None, put, put-two, written, same-written}
 use Rattle.tables.proofs.RxSide.{leaves-node, leaves-request}
 
@@ -31,6 +30,7 @@ pub record NoTx (P : ℕ → Type 0) (t : ℕ) : Type 0 where
   pub reload : P (txReload t) → ⊥
   pub timer : P (txTimer t) → ⊥
   pub place : None P (txPlace t) (txPlace t + 2)
+  pub home : P (home t) → ⊥
   pub payload : None P (payload t) (payload t + 8)
   pub mask : P (txMask t) → ⊥
 
@@ -52,11 +52,15 @@ module _ {P : ℕ → Type 0} where
   unfolding withFrame
   same-frame n a none = put-two none _ _ (omega arith) (omega arith) (same-refl a)
 
+  same-place : (t at : ℕ) (x : TxFrame) (a : List ℕ) → None P (txPlace t) (txPlace t + 2) → (P (home t) → ⊥) → Same P a (withTxPlace t at x a)
+  unfolding withTxPlace
+  same-place t at x a place home = same-set _ _ home (put-two place _ _ (omega arith) (omega arith) (same-refl a))
+
   -- all that is written of it, but for the counts
   pub same-own :
-      (t at : ℕ) (x : TxFrame) (a : List ℕ) → NoTx P t → Same P a (withPayload t (x .payload) (withTxTimer t x (setLow a (txPlace t) at)))
+      (t at : ℕ) (x : TxFrame) (a : List ℕ) → NoTx P t → Same P a (withPayload t (x .payload) (withTxTimer t x (withTxPlace t at x a)))
   same-own t at x a f =
-      same-then (put-two (f .place) (txPlace t) at (omega arith) (omega arith) (same-refl a))
+      same-then (same-place t at x a (f .place) (f .home))
       (same-then (same-timer t x _ (f .reload) (f .timer) (f .mask)) (same-payload t (x .payload) _ (f .payload)))
 
   pub same-tx :
@@ -77,7 +81,8 @@ pub record NoRx (P : ℕ → Type 0) : Type 0 where
   pub rooms : (n : ℕ) → n < 16 → None P (queue n + 2) (queue n + 4)
   pub reloads : None P rxReloadsStart txTimersStart
   pub timers : None P rxTimersStart waitsStart
-  pub rows : None P keysStart rowsEnd
+  pub rows : None P keysStart homesStart
+  pub homes : None P (home requestsStart) homesEnd
   pub masks : None P rxMasksStart masksEnd
 
 module _ {P : ℕ → Type 0} (f : NoRx P) where
@@ -88,10 +93,10 @@ module _ {P : ℕ → Type 0} (f : NoRx P) where
       (put (f .timers) _ _ (omega arith) (omega arith) (put (f .reloads) _ _ (omega arith) (omega arith) (same-refl a))))
 
   same-row : (r at : ℕ) (x : RxFrame) (a : List ℕ) → r < 256 → Same P a (withRow r at x a)
-  unfolding withRow
+  unfolding withRow withKey
   same-row r at x a h =
-      put-two (f .rows) _ _ (omega arith) (omega arith) (put-two (f .rows) _ _ (omega arith) (omega arith)
-      (put-two (f .rows) _ _ (omega arith) (omega arith) (same-refl a)))
+      put (f .homes) _ _ (omega arith) (omega arith) (put-two (f .rows) _ _ (omega arith) (omega arith)
+      (put-two (f .rows) _ _ (omega arith) (omega arith) (put-two (f .rows) _ _ (omega arith) (omega arith) (same-refl a))))
 
   same-node-row : (n r : ℕ) (a : List ℕ) → n < 16 → Same P a (withNodeRow n r a)
   unfolding withNodeRow
@@ -115,10 +120,10 @@ pub record Other (r : Record) : Type 1 where
 -- so what is proved of the records from a place on goes by two cases
 pub along :
     (Q : ℕ → List Record → List ℕ → Type 0) → ((at : ℕ) (a : List ℕ) → Q at [] a)
-    → ((at : ℕ) (x : TxFrame) (rs : List Record) (a : List ℕ) → Q (at + txBytes) rs (withTx at x a) → Q at (Tx x ∷ rs) a)
+    → ((at : ℕ) (x : TxFrame) (rs : List Record) (a : List ℕ) → Q (at + sizeOf (Tx x)) rs (withTx at x a) → Q at (Tx x ∷ rs) a)
     → ((at : ℕ) (r : Record) (rs : List Record) (a : List ℕ) → Other r → Q (at + sizeOf r) rs (withRecord at r a) → Q at (r ∷ rs) a)
     → (at : ℕ) (rs : List Record) (a : List ℕ) → Q at rs a
-unfolding txFrames withRecord formOf lengthOf kindOf sizeOf pick
+unfolding txFrames withRecord
 along Q none tx other at [] a = none at a
 along Q none tx other at (r ∷ rs) a = step r (along Q none tx other _ rs (withRecord at r a))
   where

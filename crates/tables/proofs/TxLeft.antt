@@ -13,8 +13,8 @@ use Rattle.records.specs.Kinds.{formOf, lengthOf, kindOf}
 use Rattle.records.specs.Records.{sizeOf}
 use Rattle.plan.specs.Rows.{txFrames}
 use Rattle.area.specs.Layout.{txCountBytes, headerEnd, queuesStart, txReloadsStart, txTimersStart, waitsStart, fullStart}
-use Rattle.area.specs.Layout.{txPlacesStart, rowsEnd, payloadsStart, txMasksStart, masksEnd}
-use Rattle.area.specs.Layout.{queue, txReload, txTimer, txPlace, payload, txMask}
+use Rattle.area.specs.Layout.{txPlacesStart, homesStart, homesEnd, payloadsStart, txMasksStart, masksEnd}
+use Rattle.area.specs.Layout.{queue, txReload, txTimer, txPlace, home, payload, txMask}
 use Rattle.area.proofs.Frame.{Same, same-refl, same-then}
 use Rattle.opening.specs.Opened.{nextTx, withTx, withRecord, withRecords, withRings, withFullness}
 use Rattle.opening.proofs.Counted.{counts}
@@ -28,7 +28,8 @@ pub record Left (k j : ℕ) : Type 0 where
   pub queues : j < txReloadsStart → 4 ≤ j % 8
   pub reloads : txReloadsStart ≤ j → j < txTimersStart → j < txReload k
   pub timers : txTimersStart ≤ j → j < waitsStart → j < txTimer k
-  pub tables : fullStart ≤ j → j < rowsEnd → (txPlacesStart ≤ j) × (j < txPlace k)
+  pub tables : fullStart ≤ j → j < homesStart → (txPlacesStart ≤ j) × (j < txPlace k)
+  pub homes : homesStart ≤ j → j < homesEnd → j < home k
   pub payloads : payloadsStart ≤ j → j < txMasksStart → j < payload k
   pub masks : txMasksStart ≤ j → j < masksEnd → j < txMask k
 
@@ -42,6 +43,7 @@ left-rx k h = record {
   reloads = λ j l m p. omega (arith, p .reloads (omega arith) m);
   timers = λ j l m p. omega (arith, p .timers (omega arith) m);
   rows = λ j l m p. omega (arith, p .tables (omega arith) m);
+  homes = λ j l m p. omega (arith, p .homes (omega arith) m);
   masks = λ j l m p. omega (arith, p .masks (omega arith) m);
 }
 
@@ -50,6 +52,7 @@ left-tx k t h b = record {
   reload = λ p. omega (arith, p .reloads (omega arith) (omega arith));
   timer = λ p. omega (arith, p .timers (omega arith) (omega arith));
   place = λ j l m p. omega (arith, p .tables (omega arith) (omega arith));
+  home = λ p. omega (arith, p .homes (omega arith) (omega arith));
   payload = λ j l m p. omega (arith, p .payloads (omega arith) (omega arith));
   mask = λ p. omega (arith, p .masks (omega arith) (omega arith));
 }

@@ -11,13 +11,16 @@ use Rattle.bits.specs.Owners.{owners}
 use Rattle.bits.proofs.OwnerLaws.{owners-le}
 use Rattle.records.specs.Records.{records, eightBytes}
 use Rattle.records.specs.Nodes.{isLin}
+use Rattle.records.specs.Ids.{behindId, Possible}
+use Rattle.records.specs.Views.{noTx}
 use Rattle.plan.specs.declared.verdict.Verdict.the-variants.{Good}
 use Rattle.plan.specs.Check.{checkPlan, setsOf}
 use Rattle.plan.specs.Rows.{txOf, rowsOf, nodesIn, cansIn, orderIn}
+use Rattle.plan.proofs.TestLaws.{TxRanges}
 use Rattle.facts.specs.Good.{GoodPlan}
 use Rattle.facts.proofs.GoodFacts.{good-facts}
 use Rattle.facts.proofs.Bounds.{good-bounds}
-use Rattle.facts.proofs.ByNumber.{good-types, cans-few}
+use Rattle.facts.proofs.ByNumber.{good-types, cans-few, frame-ranges}
 use Rattle.area.specs.Layout.{orderByte, nodeCountByte, canCountByte, txCountBytes, fullStart, planStart, lastPlace, waiterRange, entryCount, LongEnough}
 use Rattle.area.specs.Layout.{queue, txTimer, waits, full, txPlace, payload, spot, order, typeOn, stored, txFrame}
 use Rattle.area.specs.Queue.{endsOf}
@@ -26,7 +29,7 @@ use Rattle.opening.specs.Opened.{blank, withRecords, ringsBefore, withRings, wi
 use Rattle.opening.proofs.BlankLaws.{blank-length, blank-zero}
 use Rattle.opening.proofs.OpenedLaws.{opened-length, opened-marked, opened-plan, opened-cans, opened-counts}
 use Rattle.tables.specs.Reads.{plannedTx, typeAt, waitersOn, Header, TxTable, Rings, initial}
-use Rattle.tables.proofs.Verbatim.{opened-verbatim, tx-ends, tx-read}
+use Rattle.tables.proofs.Verbatim.{opened-verbatim, tx-ends, home-node, tx-read}
 use Rattle.tables.proofs.Stored.{rows-at}
 use Rattle.tables.proofs.Spared.{same-rings, same-fullness}
 use Rattle.tables.proofs.TxLeft.{Left, left-records, left-last}
@@ -127,15 +130,25 @@ module _ (plan a : List ℕ) (n t r : ℕ) (good : checkPlan plan ≡ Good n t r
       let number : lowAt (blank plan a) txCountBytes + k ≡ k = omega (arith, none) in
       put-kept plan recorded (opened plan a) k (length (txOf plan)) (plannedTx plan k) h few (left-opened _) (rw number at p)
 
+  -- its node and its ID are in range
+  in-range : (k : ℕ) → k < length (txOf plan) → TxRanges (nodesIn (records plan)) (plannedTx plan k)
+  in-range k h = frame-ranges plan facts noTx k h
+
+  tx-low : (k : ℕ) → k < length (txOf plan) → plannedTx plan k .node < 16
+  tx-low k h = omega (arith, in-range k h .node, facts .counts .nodes)
+
+  tx-possible : (k : ℕ) → k < length (txOf plan) → Possible (plannedTx plan k .id)
+  tx-possible k h = in-range k h .id
+
   frame-is : (k : ℕ) → k < length (txOf plan) → txFrame (opened plan a) k ≡ plannedTx plan k
   unfolding txFrame
   frame-is k h =
       let short = good-bounds plan n t r good .short in
-      let at = lowAt (opened plan a) (txPlace k) in
-      let is = puts k h .reads in
-      let near : at ≤ lastPlace = omega (arith, tx-ends plan at (plannedTx plan k) is) in
-      rw (at-most-is lastPlace at near)
-      (tx-read plan (stored (opened plan a)) (opened-verbatim plan a room (omega arith)) at (plannedTx plan k) is)
+      let p = puts k h in
+      let x = plannedTx plan k in
+      let near : p .at + behindId (x .id) ≤ lastPlace = omega (arith, tx-ends plan (p .at) x (p .reads)) in
+      rw (p .place, at-most-is lastPlace (p .at + behindId (x .id)) near)
+      (tx-read plan (opened plan a) (opened-verbatim plan a room (omega arith)) (omega arith) k (p .at) x (p .reads) (tx-low k h) (tx-possible k h) (p .home))
 
   pub opened-tx : (k : ℕ) → k < length (txOf plan) → TxTable plan (opened plan a) k
   unfolding opened
@@ -144,6 +157,7 @@ module _ (plan a : List ℕ) (n t r : ℕ) (good : checkPlan plan ≡ Good n t r
       let s = same-rings {P = λ j. ⊥} 16 recorded (omega arith) in
       record {
         frame = frame-is k h;
+        home = rw (p .home) (home-node (plannedTx plan k .node) (plannedTx plan k .id) (tx-low k h));
         reload = p .reload;
         mask = p .mask;
         full = fullness-at (setsOf plan) (withRings 16 recorded) (omega (arith, left-blank .len, long)) k (omega (arith, few));

@@ -12,15 +12,14 @@ use Rattle.records.specs.declared.record.TxFrame.{TxFrame}
 use Rattle.records.specs.declared.record.Record.{Record}
 use Rattle.records.specs.declared.record.Record.the-variants.{Tx}
 use Rattle.records.specs.Views.{noTx}
-use Rattle.base.specs.Pick.{pick}
-use Rattle.records.specs.Kinds.{txBytes, formOf, lengthOf, kindOf}
+use Rattle.records.specs.Ids.{behindId}
 use Rattle.records.specs.Records.{sizeOf, recordAt, recordsAt, eightBytes}
 use Rattle.plan.specs.Rows.{txFrames}
-use Rattle.area.specs.Layout.{txCountBytes, txReloadsStart, txPlacesStart, keysStart, payloadsStart, txMasksStart, LongEnough}
-use Rattle.area.specs.Layout.{txReload, txTimer, txPlace, payload, txMask}
+use Rattle.area.specs.Layout.{txCountBytes, txReloadsStart, txPlacesStart, homesStart, homesEnd, payloadsStart, txMasksStart, LongEnough}
+use Rattle.area.specs.Layout.{txReload, txTimer, txPlace, home, payload, txMask}
 use Rattle.area.proofs.Frame.{Same, same-refl, same-then, same-set, same-setLow, same-two}
-use Rattle.opening.specs.Opened.{nextTx, withTxTimer, withPayload, withTx, withRecord, withRecords}
-use Rattle.tables.proofs.Verbatim.{records-head}
+use Rattle.opening.specs.Opened.{nextTx, homeOf, withTxTimer, withPayload, withTxPlace, withTx, withRecord, withRecords}
+use Rattle.tables.proofs.Verbatim.{records-head, tx-ends}
 use Rattle.tables.proofs.Stored.{None, written-at}
 use Rattle.tables.proofs.Spared.{payload-written, same-payload, same-timer, same-frame, Other, along}
 use Rattle.tables.proofs.TxLeft.{Left, next-tx, next-other, left-records}
@@ -28,7 +27,10 @@ use Rattle.tables.proofs.TxLeft.{Left, next-tx, next-other, left-record
 -- ---- what stands of Tx frame t, where its record is x
 
 pub record PutTx (plan b : List ℕ) (t : ℕ) (x : TxFrame) : Type 0 where
-  pub reads : recordAt plan (lowAt b (txPlace t)) ≡ Tx x
+  pub at : ℕ
+  pub reads : recordAt plan at ≡ Tx x
+  pub place : lowAt b (txPlace t) ≡ at + behindId (x .id)
+  pub home : byteAt b (home t) ≡ homeOf (x .node) (x .id)
   pub reload : byteAt b (txReload t) ≡ x .reload
   pub initial : byteAt b (txTimer t) ≡ x .initial
   pub mask : byteAt b (txMask t) ≡ maskOf (x .prescaler)
@@ -38,7 +40,10 @@ pub put-kept :
     (plan a b : List ℕ) (t k : ℕ) (x : TxFrame) → t < k → k ≤ 256 → Same (Left k) a b → PutTx plan a t x → PutTx plan b t x
 put-kept plan a b t k x h l s p =
     record {
-      reads = rw (same-two s (txPlace t) (omega arith) (omega arith)) (p .reads);
+      at = p .at;
+      reads = p .reads;
+      place = same-two s (txPlace t) (omega arith) (omega arith) ∙ p .place;
+      home = s .at _ (omega arith) ∙ p .home;
       reload = s .at _ (omega arith) ∙ p .reload;
       initial = s .at _ (omega arith) ∙ p .initial;
       mask = s .at _ (omega arith) ∙ p .mask;
@@ -51,7 +56,11 @@ module _ (at : ℕ) (x : TxFrame) (a : List ℕ) (long : LongEnough a) where
   t = nextTx a
 
   abbrev placed : List ℕ
-  placed = setLow a (txPlace t) at
+  placed = withTxPlace t at x a
+
+  placed-size : length placed ≡ length a
+  unfolding withTxPlace
+  placed-size = simp length-set
 
   abbrev timed : List ℕ
   timed = withTxTimer t x placed
@@ -66,13 +75,25 @@ module _ (at : ℕ) (x : TxFrame) (a : List ℕ) (long : LongEnough a) where
       same-setLow txCountBytes _ (none txCountBytes (omega arith) (omega arith)) (none (txCountBytes + 1) (omega arith) (omega arith))
       (same-frame (x .node % 16) loaded (λ j low high. none j (omega arith) (omega arith)))
 
-  put-place : at < 65536 → lowAt (withTx at x a) (txPlace t) ≡ at
-  put-place h =
-      let P : ℕ → Type 0 = λ j. (txPlacesStart ≤ j) × (j < keysStart) in
-      let s : Same P placed (withTx at x a) =
+  -- the places and the homes stand between the timers and the payloads
+  since : Same (λ j. (txPlacesStart ≤ j) × (j < homesEnd)) placed (withTx at x a)
+  since =
       same-then (same-timer t x placed (omega arith) (omega arith) (omega arith))
-      (same-then (same-payload t (x .payload) timed (omega arith)) (counted (omega arith))) in
-      same-two s (txPlace t) (omega arith) (omega arith) ∙ low-same a (txPlace t) at (omega arith) h
+      (same-then (same-payload t (x .payload) timed (omega arith)) (counted (omega arith)))
+
+  put-place : at + behindId (x .id) < 65536 → lowAt (withTx at x a) (txPlace t) ≡ at + behindId (x .id)
+  unfolding withTxPlace
+  put-place h =
+      let b = setLow a (txPlace t) (at + behindId (x .id)) in
+      let s : Same (λ j. j < homesStart) b placed = same-set _ _ (omega arith) (same-refl b) in
+      same-two since (txPlace t) (omega arith) (omega arith) ∙ same-two s (txPlace t) (omega arith) (omega arith)
+      ∙ low-same a (txPlace t) (at + behindId (x .id)) (omega arith) h
+
+  put-home : byteAt (withTx at x a) (home t) ≡ homeOf (x .node) (x .id)
+  unfolding withTxPlace
+  put-home =
+      since .at (home t) (omega arith)
+      ∙ getD-set-same (setLow a (txPlace t) (at + behindId (x .id))) (home t) (homeOf (x .node) (x .id)) 0 (simp length-set (omega arith))
 
   -- the payload and the counts stand before and behind the timer's bytes
   later : {P : ℕ → Type 0} → None P 0 txReloadsStart → None P payloadsStart txMasksStart → Same P timed (withTx at x a)
@@ -84,7 +105,7 @@ module _ (at : ℕ) (x : TxFrame) (a : List ℕ) (long : LongEnough a) where
       let one = set placed (txReload t) (x .reload) in
       let s : Same (λ j. j ≡ txReload t) one timed = same-set _ _ (omega arith) (same-set _ _ (omega arith) (same-refl one)) in
       later {P = λ j. j ≡ txReload t} (omega arith) (omega arith) .at _ refl ∙ s .at _ refl
-      ∙ getD-set-same placed (txReload t) (x .reload) 0 (simp length-set (omega arith))
+      ∙ getD-set-same placed (txReload t) (x .reload) 0 (omega (arith, placed-size))
 
   put-initial : byteAt (withTx at x a) (txTimer t) ≡ x .initial
   unfolding withTxTimer
@@ -93,14 +114,14 @@ module _ (at : ℕ) (x : TxFrame) (a : List ℕ) (long : LongEnough a) where
       let two = set one (txTimer t) (x .initial) in
       let s : Same (λ j. j ≡ txTimer t) two timed = same-set _ _ (omega arith) (same-refl two) in
       later {P = λ j. j ≡ txTimer t} (omega arith) (omega arith) .at _ refl ∙ s .at _ refl
-      ∙ getD-set-same one (txTimer t) (x .initial) 0 (simp length-set (omega arith))
+      ∙ getD-set-same one (txTimer t) (x .initial) 0 (simp length-set (omega (arith, placed-size)))
 
   put-mask : byteAt (withTx at x a) (txMask t) ≡ maskOf (x .prescaler)
   unfolding withTxTimer
   put-mask =
       let two = set (set placed (txReload t) (x .reload)) (txTimer t) (x .initial) in
       later {P = λ j. j ≡ txMask t} (omega arith) (omega arith) .at _ refl
-      ∙ getD-set-same two (txMask t) (maskOf (x .prescaler)) 0 (simp length-set (omega arith))
+      ∙ getD-set-same two (txMask t) (maskOf (x .prescaler)) 0 (simp length-set (omega (arith, placed-size)))
 
   put-payload : (i : ℕ) → i < 8 → byteAt (withTx at x a) (payload t + i) ≡ byteAt (eightBytes (x .payload)) i
   put-payload i h =
@@ -109,14 +130,17 @@ module _ (at : ℕ) (x : TxFrame) (a : List ℕ) (long : LongEnough a) where
       let l : length timed ≡ length placed = same-timer {P = λ j. ⊥} t x placed (omega arith) (omega arith) (omega arith) .len in
       s .at _ (omega arith)
       ∙ rw (payload-written t (x .payload) timed)
-      (written-at timed (payload t) (eightBytes (x .payload)) i h (rw (l, length-set, length-set) (omega arith)))
+      (written-at timed (payload t) (eightBytes (x .payload)) i h (rw l (omega (arith, placed-size))))
 
 put-tx :
-    (plan : List ℕ) (at : ℕ) (x : TxFrame) (a : List ℕ) → LongEnough a → at < 65536 → recordAt plan at ≡ Tx x
+    (plan : List ℕ) (at : ℕ) (x : TxFrame) (a : List ℕ) → LongEnough a → at + behindId (x .id) < 65536 → recordAt plan at ≡ Tx x
     → PutTx plan (withTx at x a) (nextTx a) x
 put-tx plan at x a long small is =
     record {
-      reads = rw (put-place at x a long small) is;
+      at = at;
+      reads = is;
+      place = put-place at x a long small;
+      home = put-home at x a long;
       reload = put-reload at x a long;
       initial = put-initial at x a long;
       mask = put-mask at x a long;
@@ -131,15 +155,15 @@ module _ (plan : List ℕ) (short : length plan ≤ 65536) where
       recordsAt plan at ≡ rs → LongEnough a → lowAt a txCountBytes + length (txFrames rs) ≤ 256 → (k : ℕ) → k < length (txFrames rs)
       → PutTx plan (withRecords at rs a) (lowAt a txCountBytes + k) (getD (txFrames rs) k noTx)
 
-  put-first : (at : ℕ) (x : TxFrame) (rs : List Record) (a : List ℕ) → PutBy (at + txBytes) rs (withTx at x a) → PutBy at (Tx x ∷ rs) a
-  unfolding txFrames withRecords withRecord formOf lengthOf kindOf sizeOf pick
+  put-first : (at : ℕ) (x : TxFrame) (rs : List Record) (a : List ℕ) → PutBy (at + sizeOf (Tx x)) rs (withTx at x a) → PutBy at (Tx x ∷ rs) a
+  unfolding txFrames withRecords withRecord
   put-first at x rs a rest is long most zero h =
       let r = records-head plan at (Tx x) rs is in
       let e = next-tx at x a (omega arith) (omega arith) in
       let number : lowAt a txCountBytes + 0 ≡ nextTx a = omega arith in
-      let later = left-records (nextTx a + 1) (at + txBytes) rs (withTx at x a) (omega arith) (omega arith) (omega arith) in
+      let later = left-records (nextTx a + 1) (at + sizeOf (Tx x)) rs (withTx at x a) (omega arith) (omega arith) (omega arith) in
       rw number
-      (put-kept plan (withTx at x a) _ (nextTx a) (nextTx a + 1) x (omega arith) (omega arith) later (put-tx plan at x a long (omega arith) (r .1)))
+      (put-kept plan (withTx at x a) _ (nextTx a) (nextTx a + 1) x (omega arith) (omega arith) later (put-tx plan at x a long (omega (arith, tx-ends plan at x (r .1))) (r .1)))
   put-first at x rs a rest is long most (suc k) h =
       let e = next-tx at x a (omega arith) (omega arith) in
       let number : lowAt a txCountBytes + suc k ≡ lowAt (withTx at x a) txCountBytes + k = omega arith in

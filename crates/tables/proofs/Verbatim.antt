@@ -1,15 +1,20 @@
 -- The plan stands verbatim in an opened area, with zeros behind it: so what is read there is what the plan says.
 use mathlib.Core.Path.{_≡_, refl, sym, ap, subst, _∙_}
+use mathlib.Core.Bool.{true, false}
 use mathlib.Core.List.{List, _∷_}
 use mathlib.Core.Option.{Option, none, some}
-use Prim.Native.Nat.{ℕ, zero, suc, _+_, _-_, _≤_, _<_}
+use Prim.Native.Nat.{ℕ, zero, suc, _+_, _-_, _%_, _≤_, _<_}
 use native.Mathlib.Decide.{decLt, ℕ-discrete}
 use native.Mathlib.Omega.{arith}
+use lib.Dec.{ltb}
 use lib.ListN.{length}
+use borrow.Author.Tests.{lt-ltb, le-ltb}
 use Rattle.base.proofs.Apart.{differ}
 use Rattle.base.specs.Pick.{pick}
-use Rattle.base.specs.Numbers.{byteAt, twoAt}
+use Rattle.base.specs.Numbers.{byteAt, twoAt, fourAt}
 use Rattle.base.proofs.Picks.{by-eqb}
+use Rattle.records.specs.declared.record.Id.{Id}
+use Rattle.records.specs.declared.record.Id.the-variants.{Standard, Extended}
 use Rattle.records.specs.declared.record.TxFrame.{TxFrame}
 use Rattle.records.specs.declared.record.RxFrame.{RxFrame}
 use Rattle.records.specs.declared.record.SignalBody.{SignalBody}
@@ -18,17 +23,18 @@ use Rattle.records.specs.declared.record.Record.{Record}
 use Rattle.records.specs.declared.record.Record.the-variants.{Tx, Rx, Signal, Destination}
 use Rattle.records.specs.declared.decode.Step.{Step}
 use Rattle.records.specs.Views.{onTx, onRx, onDestination}
-use Rattle.records.specs.Kinds.{formOf, lengthOf, kindOf, eightAt, txAt, rxAt, txBytes, rxBytes, signalBytes}
+use Rattle.records.specs.Ids.{behindId, Possible}
+use Rattle.records.specs.Kinds.{formOf, lengthOf, txKind, rxKind, kindOf, eightAt, txAt, rxAt, txRecord, rxRecord, txFields, rxFields, signalBytes}
 use Rattle.records.specs.Records.{recordAt, sizeOf, recordsAt, records}
-use Rattle.records.proofs.RecordLaws.{by-record, step-onward, record-end, record-cut, step-whole, records-end, records-step}
+use Rattle.records.proofs.RecordLaws.{IdAt, two, four, by-record, step-onward, record-end, record-cut, step-whole, records-end, records-step}
 use Rattle.plan.specs.Rows.{withFailure, claimsFrom, awaited}
 use Rattle.facts.specs.Good.{Each, Along, Followed, GoodPlan}
 use Rattle.claims.specs.Claims.{Whole}
 use Rattle.claims.proofs.Lawful.{in-place-whole, indicated-by}
-use Rattle.area.specs.Layout.{planStart, planRoom, LongEnough, stored, failureTx, claimsAt}
+use Rattle.area.specs.Layout.{planStart, planRoom, extendedHome, LongEnough, home, homeNode, stored, idBefore, rxThere, failureTx, claimsAt}
 use Rattle.area.proofs.StoredLaws.{stored-byte, stored-length}
 use Rattle.area.proofs.Copies.{copies-destination, copies-signal, copies-stop, copies-end}
-use Rattle.opening.specs.Opened.{opened}
+use Rattle.opening.specs.Opened.{homeOf, opened}
 use Rattle.opening.proofs.OpenedLaws.{opened-length, opened-byte, opened-behind}
 
 -- some bytes begin with the plan, and then comes no kind
@@ -62,6 +68,33 @@ records-head plan at r rs e = go (decLt at (length plan))
         let none = records-end plan at (omega arith) in
         absurd (differ cc)
 
+-- how many bytes they have
+length-tx : (id : Id) → lengthOf (txKind id) ≡ behindId id + txFields
+unfolding lengthOf formOf txKind behindId pick
+length-tx (Standard n) = refl
+length-tx (Extended n) = refl
+
+length-rx : (id : Id) → lengthOf (rxKind id) ≡ behindId id + rxFields
+unfolding lengthOf formOf rxKind behindId pick
+length-rx (Standard n) = refl
+length-rx (Extended n) = refl
+
+tx-size : (x : TxFrame) → sizeOf (Tx x) ≡ behindId (x .id) + txFields
+unfolding sizeOf kindOf
+tx-size x = length-tx (x .id)
+
+rx-size : (x : RxFrame) → sizeOf (Rx x) ≡ behindId (x .id) + rxFields
+unfolding sizeOf kindOf
+rx-size x = length-rx (x .id)
+
+signal-size : (g : SignalBody) → sizeOf (Signal g) ≡ signalBytes
+unfolding sizeOf kindOf lengthOf formOf pick
+signal-size g = refl
+
+destination-size : (d : DestinationBody) → sizeOf (Destination d) ≡ 4
+unfolding sizeOf kindOf lengthOf formOf pick
+destination-size d = refl
+
 module _ (plan : List ℕ) (at : ℕ) where
   -- a record at a place is before the plan's end, and ends by it
   ends-by : (r : Record) (n : ℕ) → recordAt plan at ≡ r → sizeOf r ≡ n → 0 < n → at + n ≤ length plan
@@ -72,80 +105,137 @@ module _ (plan : List ℕ) (at : ℕ) where
       go (yes h) = omega (arith, step-onward plan at h .1, ap sizeOf is)
       go (no h) = absurd (omega (arith, ap sizeOf (sym is ∙ record-end plan at (omega arith))))
 
-  pub tx-ends : (x : TxFrame) → recordAt plan at ≡ Tx x → at + txBytes ≤ length plan
-  unfolding sizeOf kindOf lengthOf formOf pick
-  tx-ends x is = ends-by (Tx x) txBytes is refl (omega arith)
+  -- a frame's record ends behind its fields, which begin behind its ID
+  pub tx-ends : (x : TxFrame) → recordAt plan at ≡ Tx x → at + behindId (x .id) + txFields ≤ length plan
+  tx-ends x is = omega (arith, tx-size x, ends-by (Tx x) (behindId (x .id) + txFields) is (tx-size x) (omega arith))
 
-  pub rx-ends : (x : RxFrame) → recordAt plan at ≡ Rx x → at + rxBytes ≤ length plan
-  unfolding sizeOf kindOf lengthOf formOf pick
-  rx-ends x is = ends-by (Rx x) rxBytes is refl (omega arith)
+  pub rx-ends : (x : RxFrame) → recordAt plan at ≡ Rx x → at + behindId (x .id) + rxFields ≤ length plan
+  rx-ends x is = omega (arith, rx-size x, ends-by (Rx x) (behindId (x .id) + rxFields) is (rx-size x) (omega arith))
 
   -- and says what stands there
-  tx-says : (x : TxFrame) → recordAt plan at ≡ Tx x → txAt plan at ≡ x
+  tx-says : (x : TxFrame) → recordAt plan at ≡ Tx x → IdAt plan at (x .id) × (txAt (x .node) (x .id) plan (at + behindId (x .id)) ≡ x)
+  unfolding txRecord rxRecord txAt
   tx-says x is =
-      let P : Record → Type 0 = onTx (Unit {0}) (λ y. txAt plan at ≡ y) in
-      subst P is (by-record P plan at (λ fault. tt) tt tt refl tt tt tt)
+      let P : Record → Type 0 = onTx (Unit {0}) (λ y. IdAt plan at (y .id) × (txAt (y .node) (y .id) plan (at + behindId (y .id)) ≡ y)) in
+      subst P is (by-record P plan at (λ fault. tt) tt tt (λ id stands. (stands, refl)) (λ id stands. tt) tt tt)
 
-  rx-says : (x : RxFrame) → recordAt plan at ≡ Rx x → rxAt plan at ≡ x
+  rx-says : (x : RxFrame) → recordAt plan at ≡ Rx x → IdAt plan at (x .id) × (rxAt (x .node) (x .id) plan (at + behindId (x .id)) ≡ x)
+  unfolding rxRecord rxAt txRecord
   rx-says x is =
-      let P : Record → Type 0 = onRx (Unit {0}) (λ y. rxAt plan at ≡ y) in
-      subst P is (by-record P plan at (λ fault. tt) tt tt tt refl tt tt)
+      let P : Record → Type 0 = onRx (Unit {0}) (λ y. IdAt plan at (y .id) × (rxAt (y .node) (y .id) plan (at + behindId (y .id)) ≡ y)) in
+      subst P is (by-record P plan at (λ fault. tt) tt tt (λ id stands. tt) (λ id stands. (stands, refl)) tt tt)
 
   destination-says : (d : DestinationBody) → recordAt plan at ≡ Destination d → twoAt plan (at + 1) ≡ d .tx .0
+  unfolding txRecord rxRecord
   destination-says d is =
       let P : Record → Type 0 = onDestination (Unit {0}) (λ y. twoAt plan (at + 1) ≡ y .tx .0) in
-      subst P is (by-record P plan at (λ fault. tt) tt tt tt tt tt refl)
+      subst P is (by-record P plan at (λ fault. tt) tt tt (λ id stands. tt) (λ id stands. tt) tt refl)
 
-module _ (plan bytes : List ℕ) (v : Verbatim plan bytes) where
-  pub tx-read : (at : ℕ) (x : TxFrame) → recordAt plan at ≡ Tx x → txAt bytes at ≡ x
+-- ---- the frames, read by their homes and places
+
+-- a home says the node, and the format of the ID
+pub home-node : (node : ℕ) (id : Id) → node < 16 → homeOf node id % 16 ≡ node
+unfolding homeOf
+home-node node (Standard n) h = omega arith
+home-node node (Extended n) h = omega arith
+
+home-short : (node n : ℕ) → ltb (homeOf node (Standard n)) extendedHome ≡ true
+unfolding homeOf
+home-short node n = lt-ltb (node % 16) extendedHome (omega arith)
+
+home-long : (node n : ℕ) → ltb (homeOf node (Extended n)) extendedHome ≡ false
+unfolding homeOf
+home-long node n = le-ltb (node % 16 + extendedHome) extendedHome (omega arith)
+
+module _ (plan a : List ℕ) (v : Verbatim plan (stored a)) (short : length plan < planRoom) where
+  -- a byte of the plan, as one of the area
+  byte : (k : ℕ) → k < length plan → byteAt a (planStart + k) ≡ byteAt plan k
+  byte k h = sym (stored-byte a k (omega arith)) ∙ v .byte k h
+
+  at-byte : (j k : ℕ) → j ≡ planStart + k → k < length plan → byteAt a j ≡ byteAt plan k
+  at-byte j k e h = rw e (byte k h)
+
+  -- the ID before the fields of a record that stands at a place
+  id-read :
+      (k at node : ℕ) (id : Id) → IdAt plan at id → Possible id → at + behindId id ≤ length plan → byteAt a (home k) ≡ homeOf node id
+      → idBefore a k (at + behindId id) ≡ id
+  unfolding idBefore behindId Possible pick
+  id-read k at node (Standard n) two p h e =
+      rw (
+        e,
+        home-short node n,
+        at-byte (planStart + (at + 4) - 2) (at + 2) (omega arith) (omega arith),
+        at-byte (planStart + (at + 4) - 2 + 1) (at + 2 + 1) (omega arith) (omega arith),
+      )
+  id-read k at node (Extended n) four p h e =
+      let whole : fourAt a (planStart + (at + 6) - 4) ≡ fourAt plan (at + 2) =
+      rw (
+        at-byte (planStart + (at + 6) - 4) (at + 2) (omega arith) (omega arith),
+        at-byte (planStart + (at + 6) - 4 + 1) (at + 2 + 1) (omega arith) (omega arith),
+        at-byte (planStart + (at + 6) - 4 + 2) (at + 2 + 2) (omega arith) (omega arith),
+        at-byte (planStart + (at + 6) - 4 + 2 + 1) (at + 2 + 2 + 1) (omega arith) (omega arith),
+      ) in
+      rw (e, home-long node n, whole) (ap Extended (omega arith))
+
+  -- and the fields
+  tx-fields : (node : ℕ) (id : Id) (at : ℕ) → at + txFields ≤ length plan → txAt node id (stored a) at ≡ txAt node id plan at
   unfolding txAt eightAt
-  tx-read at x is = same ∙ tx-says plan at x is
-    where
-      b : (k : ℕ) → k < at + txBytes → byteAt bytes k ≡ byteAt plan k
-      b k h = v .byte k (omega (arith, tx-ends plan at x is))
+  tx-fields node id at h =
+      rw (
+        v .byte at (omega arith),
+        v .byte (at + 1) (omega arith),
+        v .byte (at + 2) (omega arith),
+        v .byte (at + 3) (omega arith),
+        v .byte (at + 4) (omega arith),
+        v .byte (at + 5) (omega arith),
+        v .byte (at + 5 + 1) (omega arith),
+        v .byte (at + 5 + 2) (omega arith),
+        v .byte (at + 5 + 3) (omega arith),
+        v .byte (at + 5 + 4) (omega arith),
+        v .byte (at + 5 + 5) (omega arith),
+        v .byte (at + 5 + 6) (omega arith),
+        v .byte (at + 5 + 7) (omega arith),
+      )
 
-      same : txAt bytes at ≡ txAt plan at
-      same =
-          rw (
-            b (at + 1) (omega arith),
-            b (at + 2) (omega arith),
-            b (at + 2 + 1) (omega arith),
-            b (at + 4) (omega arith),
-            b (at + 5) (omega arith),
-            b (at + 6) (omega arith),
-            b (at + 7) (omega arith),
-            b (at + 8) (omega arith),
-            b (at + 9) (omega arith),
-            b (at + 9 + 1) (omega arith),
-            b (at + 9 + 2) (omega arith),
-            b (at + 9 + 3) (omega arith),
-            b (at + 9 + 4) (omega arith),
-            b (at + 9 + 5) (omega arith),
-            b (at + 9 + 6) (omega arith),
-            b (at + 9 + 7) (omega arith),
-          )
-
-  pub rx-read : (at : ℕ) (x : RxFrame) → recordAt plan at ≡ Rx x → rxAt bytes at ≡ x
+  rx-fields : (node : ℕ) (id : Id) (at : ℕ) → at + rxFields ≤ length plan → rxAt node id (stored a) at ≡ rxAt node id plan at
   unfolding rxAt
-  rx-read at x is = same ∙ rx-says plan at x is
-    where
-      b : (k : ℕ) → k < at + rxBytes → byteAt bytes k ≡ byteAt plan k
-      b k h = v .byte k (omega (arith, rx-ends plan at x is))
+  rx-fields node id at h =
+      rw (
+        v .byte at (omega arith),
+        v .byte (at + 1) (omega arith),
+        v .byte (at + 2) (omega arith),
+        v .byte (at + 3) (omega arith),
+        v .byte (at + 4) (omega arith),
+        v .byte (at + 5) (omega arith),
+        v .byte (at + 6) (omega arith),
+      )
 
-      same : rxAt bytes at ≡ rxAt plan at
-      same =
-          rw (
-            b (at + 1) (omega arith),
-            b (at + 2) (omega arith),
-            b (at + 2 + 1) (omega arith),
-            b (at + 4) (omega arith),
-            b (at + 5) (omega arith),
-            b (at + 6) (omega arith),
-            b (at + 7) (omega arith),
-            b (at + 8) (omega arith),
-            b (at + 9) (omega arith),
-            b (at + 10) (omega arith),
-          )
+  module _ (k at : ℕ) where
+    pub tx-read :
+        (x : TxFrame) → recordAt plan at ≡ Tx x → x .node < 16 → Possible (x .id) → byteAt a (home k) ≡ homeOf (x .node) (x .id)
+        → txAt (homeNode a k) (idBefore a k (at + behindId (x .id))) (stored a) (at + behindId (x .id)) ≡ x
+    tx-read x is low p e =
+        let says = tx-says plan at x is in
+        let ends = tx-ends plan at x is in
+        rw (e, home-node (x .node) (x .id) low, id-read k at (x .node) (x .id) (says .0) p (omega arith) e)
+        (tx-fields (x .node) (x .id) (at + behindId (x .id)) ends ∙ says .1)
+
+    pub rx-read :
+        (x : RxFrame) → recordAt plan at ≡ Rx x → x .node < 16 → Possible (x .id) → byteAt a (home k) ≡ homeOf (x .node) (x .id)
+        → rxAt (homeNode a k) (idBefore a k (at + behindId (x .id))) (stored a) (at + behindId (x .id)) ≡ x
+    rx-read x is low p e =
+        let says = rx-says plan at x is in
+        let ends = rx-ends plan at x is in
+        rw (e, home-node (x .node) (x .id) low, id-read k at (x .node) (x .id) (says .0) p (omega arith) e)
+        (rx-fields (x .node) (x .id) (at + behindId (x .id)) ends ∙ says .1)
+
+  -- what an Rx frame awaits is in its fields alone
+  awaited-read : (at : ℕ) (x : RxFrame) → recordAt plan at ≡ Rx x → awaited (rxThere a (at + behindId (x .id))) ≡ awaited x
+  awaited-read at x is =
+      ap awaited (rx-fields _ _ (at + behindId (x .id)) (rx-ends plan at x is)) ∙ any (x .node) (x .id) ∙ ap awaited (rx-says plan at x is .1)
+    where
+      any : (node : ℕ) (id : Id) → awaited (rxAt 0 (Standard 0) plan (at + behindId (x .id))) ≡ awaited (rxAt node id plan (at + behindId (x .id)))
+      any node id = unfold awaited rxAt in refl
 
 -- ---- the copies
 
@@ -246,44 +336,55 @@ unfolding claimsFrom withFailure
 failure-first n w g d rs = refl
 
 module _
-    (plan a : List ℕ) (v : Verbatim plan (stored a)) (r at : ℕ) (x : RxFrame) (is : recordAt plan at ≡ Rx x)
-    (s : Sound (Rx x ∷ recordsAt plan (at + rxBytes)))
+    (plan a : List ℕ) (v : Verbatim plan (stored a)) (short : length plan < planRoom) (r at : ℕ) (x : RxFrame) (is : recordAt plan at ≡ Rx x)
+    (s : Sound (Rx x ∷ recordsAt plan (at + sizeOf (Rx x))))
   where
     abbrev own : List Record
-    own = recordsAt plan (at + rxBytes)
+    own = recordsAt plan (at + sizeOf (Rx x))
+
+    -- the place of the fields, and the place behind them
+    abbrev fields : ℕ
+    fields = at + behindId (x .id)
+
+    behind : fields + rxFields ≡ at + sizeOf (Rx x)
+    behind = omega (arith, rx-size x)
 
     whole-own : Each Whole own
     whole-own = sound-rest (Rx x) own s .whole
 
     -- the Tx frame that is read behind the first signal is the first destination's
-    first-tx : (g : SignalBody) (d : DestinationBody) (rs : List Record) → own ≡ Signal g ∷ Destination d ∷ rs → failureTx a at ≡ d .tx .0
-    unfolding sizeOf kindOf lengthOf formOf pick
+    first-tx : (g : SignalBody) (d : DestinationBody) (rs : List Record) → own ≡ Signal g ∷ Destination d ∷ rs → failureTx a fields ≡ d .tx .0
     first-tx g d rs e =
-        let k = at + rxBytes + signalBytes in
-        let there = records-head plan k (Destination d) rs (records-head plan (at + rxBytes) (Signal g) (Destination d ∷ rs) e .2) .1 in
-        let end : k + 4 ≤ length plan = ends-by plan k (Destination d) 4 there refl (omega arith) in
+        let k = fields + rxFields + signalBytes in
+        let next : recordsAt plan k ≡ Destination d ∷ rs =
+        rw (behind, ← (signal-size g)) (records-head plan (at + sizeOf (Rx x)) (Signal g) (Destination d ∷ rs) e .2) in
+        let there = records-head plan k (Destination d) rs next .1 in
+        let end : k + 4 ≤ length plan = ends-by plan k (Destination d) 4 there (destination-size d) (omega arith) in
         rw (v .byte (k + 1) (omega arith), v .byte (k + 1 + 1) (omega arith)) (destination-says plan k d there)
 
     two-first :
         (g : SignalBody) (d : DestinationBody) (rs : List Record) → own ≡ Signal g ∷ Destination d ∷ rs → (w : Option ℕ)
-        → withFailure r w (failureTx a at) (claimsFrom r none 0 0 own) ≡ claimsFrom r w 0 0 own
+        → withFailure r w (failureTx a fields) (claimsFrom r none 0 0 own) ≡ claimsFrom r w 0 0 own
     two-first g d rs e w = rw (first-tx g d rs e, e) (sym (failure-first r w g d rs))
 
     enabled :
-        x .enable ≡ 1 → withFailure r (some (x .position)) (failureTx a at) (claimsFrom r none 0 0 own) ≡ claimsFrom r (some (x .position)) 0 0 own
+        x .enable ≡ 1 → withFailure r (some (x .position)) (failureTx a fields) (claimsFrom r none 0 0 own) ≡ claimsFrom r (some (x .position)) 0 0 own
     unfolding Along
     enabled on =
         let f = s .followed .0 x refl on in
         let i = indicated-by own whole-own (f .0) (f .1) in
         two-first (i .0) (i .1) (i .2) (i .3) (some (x .position))
 
-    all : withFailure r (awaited x) (failureTx a at) (claimsFrom r none 0 0 own) ≡ claimsFrom r (awaited x) 0 0 own
+    all : withFailure r (awaited x) (failureTx a fields) (claimsFrom r none 0 0 own) ≡ claimsFrom r (awaited x) 0 0 own
     unfolding awaited withFailure
     all =
-        by-eqb (λ (w : Option ℕ). withFailure r w (failureTx a at) (claimsFrom r none 0 0 own) ≡ claimsFrom r w 0 0 own) (x .enable) 1
+        by-eqb (λ (w : Option ℕ). withFailure r w (failureTx a fields) (claimsFrom r none 0 0 own) ≡ claimsFrom r w 0 0 own) (x .enable) 1
         (some (x .position)) none enabled (λ off. refl)
 
-    pub claims-read : claimsAt a r at ≡ claimsFrom r (awaited x) 0 0 own
+    pub claims-read : claimsAt a r fields ≡ claimsFrom r (awaited x) 0 0 own
     unfolding claimsAt
     claims-read =
-        rw (rx-read plan (stored a) v at x is, copies-read plan (stored a) v r 0 0 (at + rxBytes) (rx-ends plan at x is) whole-own) all
+        let end : at + sizeOf (Rx x) ≤ length plan = omega (arith, rx-size x, rx-ends plan at x is) in
+        let copies : claimsFrom r none 0 0 (recordsAt (stored a) (fields + rxFields)) ≡ claimsFrom r none 0 0 own =
+        rw behind (copies-read plan (stored a) v r 0 0 (at + sizeOf (Rx x)) end whole-own) in
+        rw (awaited-read plan a v short at x is, copies) all

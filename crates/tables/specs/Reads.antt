@@ -14,13 +14,14 @@ use Rattle.clock.specs.Counter.{maskOf}
 use Rattle.records.specs.declared.record.NodeType.{NodeType}
 use Rattle.records.specs.declared.record.NodeType.the-variants.{Can}
 use Rattle.records.specs.declared.record.TxFrame.{TxFrame}
+use Rattle.records.specs.Ids.{keyOf}
 use Rattle.records.specs.Views.{noTx}
 use Rattle.records.specs.Records.{records, eightBytes}
 use Rattle.records.specs.Nodes.{isLin}
 use Rattle.plan.specs.Check.{setsOf}
 use Rattle.plan.specs.Rows.{Row, noRow, rowsOf, txOf, nodesIn, typesIn, orderIn}
-use Rattle.area.specs.Layout.{waiterRange, entryCount, LongEnough, txReload, rxReload, txTimer, rxTimer, long, waits, full, txMask, rxMask, spot, marked}
-use Rattle.area.specs.Layout.{counter, order, nodeCount, typeOn, txCount, rxCount, firstRow, rowCount, keyAt, planOf, txFrame, rxFrame, claims}
+use Rattle.area.specs.Layout.{requestsStart, waiterRange, entryCount, LongEnough, txReload, rxReload, txTimer, rxTimer, long, waits, full, txMask, rxMask, spot, marked}
+use Rattle.area.specs.Layout.{counter, order, nodeCount, typeOn, txCount, rxCount, firstRow, rowCount, keyAt, homeNode, planOf, txFrame, rxFrame, claims}
 use Rattle.area.specs.Queue.{endsOf, Apart}
 
 -- ---- the plan's frames by number; a number that is no frame's has an empty one
@@ -61,18 +62,20 @@ pub record Header (plan a : List ℕ) : Type 0 where
   pub tx : txCount a ≡ length (txOf plan)
   pub rx : rxCount a ≡ length (rowsOf plan)
 
--- of Tx frame t: its record, its reload value, its mask, and how many of its bits have an owner
+-- of Tx frame t: its record, its home, its reload value, its mask, and how many of its bits have an owner
 pub record TxTable (plan a : List ℕ) (t : ℕ) : Type 0 where
   pub frame : txFrame a t ≡ plannedTx plan t
+  pub home : homeNode a t ≡ plannedTx plan t .node
   pub reload : byteAt a (txReload t) ≡ plannedTx plan t .reload
   pub mask : byteAt a (txMask t) ≡ maskOf (plannedTx plan t .prescaler)
   pub full : lowAt a (full t) ≡ owners (getD (setsOf plan) t 0) 64
 
--- of Rx frame r: its record, its claims, its key, its reload value and its mask
+-- of Rx frame r: its record, its home, its claims, its key, its reload value and its mask
 pub record RxTable (plan a : List ℕ) (r : ℕ) : Type 0 where
   pub frame : rxFrame a r ≡ rowAt plan r .frame
+  pub home : homeNode a (requestsStart + r) ≡ rowAt plan r .frame .node
   pub claims : claims a r ≡ rowAt plan r .claims
-  pub key : keyAt a r ≡ rowAt plan r .frame .id
+  pub key : keyAt a r ≡ keyOf (rowAt plan r .frame .id)
   pub reload : byteAt a (rxReload r) ≡ rowAt plan r .frame .reload
   pub mask : byteAt a (rxMask r) ≡ maskOf (rowAt plan r .frame .prescaler)
 

@@ -1,7 +1,7 @@
 -- What a take answers. "Take on a node: "none", or the oldest waiting frame, which then waits no more: its Tx number, ID, size, how many still wait on
 -- that node, and its payload of that size, handed back as that part of the area". "A take answers a request (Rx number, ID, size, waiting count, the
 -- empty part ..) or a frame, with the protected identifier" (document 02, Ticket 2). "Fullness of a Tx frame answers how many of its bits have an
--- owner, 0 to 64."
+-- owner, 0 to 64." "A .. take say[s] which format" (Ticket 6): the ID says it.
 use Prim.Native.Nat.{ℕ, _-_, _%_}
 use mathlib.Core.List.{List, []}
 use lib.Dec.{ltb, eqb}
@@ -9,8 +9,10 @@ use lib.ListN.{length, take, drop}
 use Rattle.base.specs.Pick.{pick}
 use Rattle.lin.specs.Identifier.{protectedOf}
 use Rattle.lin.specs.Checksum.{checksumOf}
+use Rattle.records.specs.declared.record.Id.{Id}
 use Rattle.records.specs.declared.record.Entry.{Entry}
 use Rattle.records.specs.declared.record.Entry.the-variants as entry
+use Rattle.records.specs.Ids.{plainId}
 use Rattle.records.specs.Nodes.{isLin}
 use Rattle.area.specs.Layout.{longEnough, payload, marked, nodeCount, typeOn, txCount, inWidth, ownedBits, txFrame, rxFrame}
 use Rattle.area.specs.Queue.{endsOf, entryOf, oldest, dequeued}
@@ -27,8 +29,8 @@ unfoldable pub keptPart : List ℕ → ℕ → ℕ → List ℕ
 keptPart a t size = pick (longEnough (length a)) (take (inWidth size) (drop (payload (t % 256)) a)) []
 
 -- what goes with a frame of this ID and payload on node n: "A take of a LIN Tx frame gives that of the payload it hands back."
-unfoldable pub framingOf : List ℕ → ℕ → ℕ → List ℕ → Framing
-framingOf a n id bytes = pick (isLin (typeOn a n)) (Lin (protectedOf id) (checksumOf (protectedOf id) bytes)) Can
+unfoldable pub framingOf : List ℕ → ℕ → Id → List ℕ → Framing
+framingOf a n id bytes = pick (isLin (typeOn a n)) (Lin (protectedOf (plainId id)) (checksumOf (protectedOf (plainId id)) bytes)) Can
 
 -- a frame or a request that leaves node n's queue, after which so many wait
 unfoldable pub entryAnswer : List ℕ → ℕ → Entry → ℕ → Taken
@@ -48,7 +50,7 @@ entryAnswer a n (entry.Request r) waiting =
       id = rxFrame a (r .0) .id;
       size = rxFrame a (r .0) .size;
       waiting = waiting;
-      protected = protectedOf (rxFrame a (r .0) .id);
+      protected = protectedOf (plainId (rxFrame a (r .0) .id));
     })
 
 -- the oldest of node n, where one waits

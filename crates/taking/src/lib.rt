@@ -6,8 +6,8 @@ use answers::Taken;
 use answers::TakenFrame;
 use answers::TakenRequest;
 use area::frames::owned_bits;
+use area::frames::rx_fields_place;
 use area::frames::rx_id;
-use area::frames::rx_record_place;
 use area::frames::rx_size;
 use area::frames::tx_id;
 use area::frames::tx_size;
@@ -30,7 +30,7 @@ use records::record::TxNumber;
 ghost use mathlib.Core.Path.{_≡_};
 ghost use Prim.Native.Nat.{_<_};
 ghost use Rattle.records.specs.declared.record.Entry.the-variants.{Frame, Request};
-ghost use Rattle.area.specs.Layout.{waiterRange, LongEnough};
+ghost use Rattle.area.specs.Layout.{waiterRange, LongEnough, txFrame};
 ghost use Rattle.area.specs.Queue.{entryOf};
 ghost use Rattle.taking.specs.Taken.{keptPart, framingOf, entryAnswer, takenAnswer, takenArea, takenPayload, fullnessAnswer};
 
@@ -72,9 +72,10 @@ fn frame_of(area: &[u8], n: usize, t: TxNumber, waiting: usize) -> Taken
     requires { ⌜ (t .0 < 256) × LongEnough (now area) ⌝ }
     ensures { λ x. ⌜ x ≡ entryAnswer (now (area .entry)) n (Frame t) waiting ⌝ }
 {
-    let id = tx_id(area, t);
     let size = in_width(tx_size(area, t));
-    let framing = framing_of(area, n, id, t, size);
+    let framing = framing_of(area, n, t, size);
+    // last, so that it need not be kept while a checksum is made
+    let id = tx_id(area, t);
     Taken::Frame(TakenFrame {
         tx: t,
         id,
@@ -88,27 +89,28 @@ fn request_of(area: &[u8], n: usize, r: RxNumber, waiting: usize) -> Taken
     requires { ⌜ (r .0 < 256) × LongEnough (now area) ⌝ }
     ensures { λ x. ⌜ x ≡ entryAnswer (now (area .entry)) n (Request r) waiting ⌝ }
 {
-    let at = rx_record_place(area, r);
-    let id = rx_id(area, at);
+    let id = rx_id(area, r);
+    let at = rx_fields_place(area, r);
     let size = rx_size(area, at);
     Taken::Request(TakenRequest {
         rx: r,
         id,
         size,
         waiting,
-        protected: lin::protected(id),
+        protected: lin::protected(id.plain()),
     })
 }
 
 // What goes with Tx frame `t` on node `n`: on LIN its protected identifier, and the checksum of the payload that is handed back.
-fn framing_of(area: &[u8], n: usize, id: usize, t: TxNumber, size: usize) -> Framing
-    requires { ⌜ LongEnough (now area) ⌝ }
-    ensures { λ x. ⌜ x ≡ framingOf (now (area .entry)) n id (keptPart (now (area .entry)) (t .0) size) ⌝ }
+fn framing_of(area: &[u8], n: usize, t: TxNumber, size: usize) -> Framing
+    requires { ⌜ (t .0 < 256) × LongEnough (now area) ⌝ }
+    ensures { λ x. ⌜ x ≡ framingOf (now (area .entry)) n (txFrame (now (area .entry)) (t .0) .id) (keptPart (now (area .entry)) (t .0) size) ⌝ }
 {
     match node_type(area, n) {
         NodeType::Can => Framing::Can,
         NodeType::Lin => {
-            let protected = lin::protected(id);
+            let id = tx_id(area, t);
+            let protected = lin::protected(id.plain());
             Framing::Lin {
                 protected,
                 checksum: lin::checksum(protected, part(area, t, size)),

@@ -11,11 +11,11 @@ use Rattle.base.proofs.Picks.{into}
 use Rattle.bits.specs.Payload.{setBit}
 use Rattle.plan.specs.Rows.{Source, copy, failure, Claim}
 use Rattle.area.specs.Layout.{txTimersStart, longStart, payloadsStart, requestsStart, queue, long, waits, txReload, txTimer, spot}
-use Rattle.area.specs.Layout.{order, txFrame, rxFrame, claims}
+use Rattle.area.specs.Layout.{order, homeNode, claims}
 use Rattle.area.specs.Queue.{endsOf, slot, behind, setEnds, queued, scheduled, requested}
 use Rattle.area.specs.Claims.{expired, doneBy, sentBy, done, allDone}
 use Rattle.area.proofs.Frame.{slot-low}
-use Rattle.area.proofs.Kept.{Kept, kept-refl, kept-low, order-kept, typeOn-kept, txFrame-kept, rxFrame-kept, claims-kept}
+use Rattle.area.proofs.Kept.{Kept, kept-refl, kept-low, order-kept, typeOn-kept, homeNode-kept, rxFrame-kept, claims-kept}
 use Rattle.ticking.specs.Tick.{longLowered, expiredArea, rxOnLin, rxExpiry, expiryReport}
 use Rattle.ticking.proofs.ExpiryLaws.{report-set}
 
@@ -65,11 +65,11 @@ module _ (p v : ℕ) (l : txTimersStart ≤ p) (m : p < longStart) where
       → scheduled (set a p v) t ≡ set (scheduled a t) p v
   unfolding scheduled
   scheduled-either a t h swap =
-      let n = txFrame a t .node % 16 in
+      let n = homeNode a t in
       rw (
         other a (waits t) (λ e. omega arith),
         other a (txReload t) (λ e. omega arith),
-        txFrame-kept (kept-timer a) t h,
+        homeNode-kept (kept-timer a) t (omega arith),
         queued-apart a n t (omega arith),
         set-comm (queued a n t) p (waits t) v 1 (λ e. omega arith),
         swap (set (queued a n t) (waits t) 1),
@@ -116,17 +116,17 @@ module _ (p v : ℕ) (l : txTimersStart ≤ p) (m : p < longStart) where
   requested-apart : (a : List ℕ) (r : ℕ) → r < 256 → requested (set a p v) r ≡ set (requested a r) p v
   unfolding requested
   requested-apart a r h =
-      let n = rxFrame a r .node % 16 in
+      let n = homeNode a (requestsStart + r) in
       rw (
         other a (waits (requestsStart + r)) (λ e. omega arith),
-        rxFrame-kept (kept-timer a) r h,
+        homeNode-kept (kept-timer a) (requestsStart + r) (omega arith),
         queued-apart a n (requestsStart + r) (omega arith),
         set-comm (queued a n (requestsStart + r)) p (waits (requestsStart + r)) v 1 (λ e. omega arith),
       ) (sym (into (λ (x : List ℕ). set x p v) _ _ _))
 
   lin-apart : (a : List ℕ) (r : ℕ) → r < 256 → rxOnLin (set a p v) r ≡ rxOnLin a r
   unfolding rxOnLin
-  lin-apart a r h = rw (rxFrame-kept (kept-timer a) r h, typeOn-kept (kept-timer a) (rxFrame a r .node % 16))
+  lin-apart a r h = rw (homeNode-kept (kept-timer a) (requestsStart + r) (omega arith), typeOn-kept (kept-timer a) (homeNode a (requestsStart + r)))
 
   pub expiry-apart : (a : List ℕ) (r : ℕ) → r < 256 → rxExpiry (set a p v) r ≡ set (rxExpiry a r) p v
   unfolding rxExpiry

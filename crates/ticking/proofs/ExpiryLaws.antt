@@ -3,7 +3,7 @@
 use mathlib.Core.Path.{_≡_, refl, ap, _∙_}
 use mathlib.Core.Bool.{true, false}
 use mathlib.Core.List.{List}
-use Prim.Native.Nat.{ℕ, _%_, _<_}
+use Prim.Native.Nat.{ℕ, _+_, _<_}
 use native.Mathlib.Omega.{arith}
 use lib.ListN.{set}
 use lib.Seq.{getD-set-other}
@@ -14,27 +14,26 @@ use Rattle.records.specs.declared.record.NodeType.{NodeType}
 use Rattle.records.specs.declared.record.NodeType.the-variants.{Can, Lin}
 use Rattle.records.specs.Kinds.{rxAt}
 use Rattle.records.specs.Nodes.{isLin}
-use Rattle.area.specs.Layout.{longStart, long, order, typeOn, rxRecordPlace, stored, rxFrame, claims}
+use Rattle.area.specs.Layout.{longStart, requestsStart, long, order, typeOn, rxFieldsPlace, homeNode, rxThere, rxFrame, claims}
 use Rattle.area.specs.Queue.{requested}
 use Rattle.area.specs.Claims.{expired, allDone, failureWritten}
-use Rattle.area.proofs.Frame.{Same}
 use Rattle.area.proofs.Kept.{rxFrame-kept}
 use Rattle.area.proofs.Copies.{expired-claims, failure-off, kept-failure}
 use Rattle.ticking.specs.Tick.{longLowered, expiredArea, expiredReport, rxOnLin, rxExpiry, expiryReport}
 
 -- the failure bit is all that an expiry writes by the claims
-pub failed : (a : List ℕ) (r : ℕ) → allDone (order a) (expired r) (claims a r) a ≡ failureWritten (order a) 1 a (rxRecordPlace a r)
+pub failed : (a : List ℕ) (r : ℕ) → allDone (order a) (expired r) (claims a r) a ≡ failureWritten (order a) 1 a (rxFieldsPlace a r)
 unfolding claims
-failed a r = expired-claims (order a) r a (rxRecordPlace a r)
+failed a r = expired-claims (order a) r a (rxFieldsPlace a r)
 
 pub expired-is :
-    (a : List ℕ) (r at : ℕ) → r < 256 → at ≡ rxRecordPlace a r → rxAt (stored a) at .position < 256
-    → set (failureWritten (order a) 1 a at) (long r) (lowered (rxAt (stored a) at .long) (byteAt a (long r))) ≡ expiredArea a r
+    (a : List ℕ) (r at : ℕ) → r < 256 → at ≡ rxFieldsPlace a r → rxThere a at .position < 256
+    → set (failureWritten (order a) 1 a at) (long r) (lowered (rxThere a at .long) (byteAt a (long r))) ≡ expiredArea a r
 unfolding expiredArea longLowered
 expired-is a r at h e narrow =
     let off = failure-off {P = λ j. j ≡ long r} (λ j low high p. omega arith) (order a) 1 a at narrow .at (long r) refl in
     let frame = rxFrame-kept (kept-failure (order a) 1 a at narrow) r h in
-    let same : rxFrame a r ≡ rxAt (stored a) at = unfold rxFrame in rw e in
+    let same : rxFrame a r .long ≡ rxThere a at .long = unfold rxFrame rxAt in rw e in
     rw (failed a r, ← e, off, frame, same)
 
 -- a timer's own step leaves the long counters
@@ -42,12 +41,11 @@ pub report-set : (a : List ℕ) (r p v : ℕ) → p < longStart → expiredRepor
 unfolding expiredReport
 report-set a r p v h = rw (getD-set-other a p (long r) v 0 (λ e. omega arith))
 
--- the type of the node decides: at is the place of the frame's record, n its node
-module _ (a : List ℕ) (r at n : ℕ) (type : NodeType) (place : at ≡ rxRecordPlace a r) (node : n ≡ rxAt (stored a) at .node % 16)
-    (told : type ≡ typeOn a n) where
+-- the type of the node decides: n is the frame's
+module _ (a : List ℕ) (r n : ℕ) (type : NodeType) (node : n ≡ homeNode a (requestsStart + r)) (told : type ≡ typeOn a n) where
   on-lin : rxOnLin a r ≡ isLin type
-  unfolding rxOnLin rxFrame
-  on-lin = rw (told, node, place)
+  unfolding rxOnLin
+  on-lin = rw (told, node)
 
   pub asks : {b : List ℕ} → type ≡ Lin → b ≡ requested a r → (0 ≡ expiryReport a r) × (b ≡ rxExpiry a r)
   unfolding expiryReport rxExpiry isLin pick

@@ -4,7 +4,7 @@ use mathlib.Core.List.{List}
 use Prim.Native.Nat.{ℕ, _+_, _<_}
 use Rattle.bits.proofs.PayloadLaws.{Bytes}
 use Rattle.records.specs.Kinds.{rxAt}
-use Rattle.area.specs.Layout.{rxRecordPlace, rxFrame}
+use Rattle.area.specs.Layout.{rxFieldsPlace, rxFrame}
 use Rattle.area.proofs.Kept.{Kept, rxFrame-kept}
 use Rattle.area.proofs.NarrowLaws.{bytes-stored}
 
@@ -16,4 +16,4 @@ positions-kept k p r h = rw (rxFrame-kept k r h) (p r h)
 
 pub bytes-positions : (a : List ℕ) → Bytes a → Positions a
 unfolding rxFrame rxAt
-bytes-positions a h r l = bytes-stored a h (rxRecordPlace a r + 9)
+bytes-positions a h r l = bytes-stored a h (rxFieldsPlace a r + 5)

@@ -4,6 +4,7 @@ use mathlib.Core.List.{List}
 use Prim.Native.Nat.{ℕ, zero, suc, _+_, _/_, _<_, _≤_}
 use native.Mathlib.Omega.{arith}
 use Rattle.base.proofs.Ranges.{at-most-le}
+use Rattle.records.specs.Kinds.{rxAt}
 use Rattle.area.specs.Layout.{counterByte, requestsStart, spot, long, waits, txReload, rxReload, txTimer, rxTimer, order, txCount, rxCount}
 use Rattle.area.specs.Layout.{rxFrame, claims}
 use Rattle.area.specs.Claims.{expired, allDone, failureWritten}
@@ -19,7 +20,7 @@ Missed P q = (t : ℕ) → t < 256 → P (spot t q / 8) → ⊥
 
 module _ {P : ℕ → Type 0} where
   same-failed : (a : List ℕ) (r : ℕ) → Missed P (rxFrame a r .position) → Same P a (allDone (order a) (expired r) (claims a r) a)
-  unfolding failureWritten rxFrame
+  unfolding failureWritten rxFrame rxAt
   same-failed a r missed = rw (failed a r) (same-pick _ _ _ (same-setBit (order a) _ 1 (missed _ (omega arith)) (same-refl a)) (same-refl a))
 
   same-timed : (a : List ℕ) (reload at : ℕ) → (P at → ⊥) → Same P a (timed a reload at)

@@ -47,7 +47,7 @@ counter-ticked a h =
 
 module _ (a : List ℕ) (positions : Positions a) where
   pub tail-ticked : drop planStart (ticked a) ≡ drop planStart a
-  tail-ticked = same-tail planStart (kept-ticked a positions) in-plan
+  tail-ticked = same-tail planStart (kept-ticked a positions) (λ j h. in-plan j (omega arith))
 
   pub planOf-ticked : planOf (ticked a) ≡ planOf a
   planOf-ticked = planOf-kept (kept-ticked a positions)

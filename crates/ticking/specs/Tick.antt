@@ -1,5 +1,5 @@
 -- "Tick. .. The counter moves on last. .. Tx timers go first, in number order: expiry reloads and schedules. Rx timers follow, in number order."
-use Prim.Native.Nat.{ℕ, zero, suc, _%_}
+use Prim.Native.Nat.{ℕ, zero, suc, _+_}
 use mathlib.Core.Bool.{Bool}
 use mathlib.Core.List.{List}
 use lib.Dec.{leb, eqb}
@@ -9,8 +9,8 @@ use Rattle.base.specs.Numbers.{byteAt}
 use Rattle.records.specs.Nodes.{isLin}
 use Rattle.clock.specs.Counter.{counterNext, noCommonBit}
 use Rattle.clock.specs.Timer.{lowered}
-use Rattle.area.specs.Layout.{counterByte, txReload, rxReload, txTimer, rxTimer, long, txMask, rxMask}
-use Rattle.area.specs.Layout.{marked, counter, order, typeOn, txCount, rxCount, rxFrame, claims}
+use Rattle.area.specs.Layout.{counterByte, requestsStart, txReload, rxReload, txTimer, rxTimer, long, txMask, rxMask}
+use Rattle.area.specs.Layout.{marked, counter, order, typeOn, txCount, rxCount, homeNode, rxFrame, claims}
 use Rattle.area.specs.Queue.{scheduled, requested}
 use Rattle.area.specs.Claims.{expired, allDone}
 use Rattle.answers.specs.declared.Refusal.the-variants.{NotOpen, ShortReport}
@@ -53,7 +53,7 @@ expiredReport a r = pick (eqb (byteAt a (long r)) 1) 2 1
 
 -- whether Rx frame r is one of a LIN node
 unfoldable pub rxOnLin : List ℕ → ℕ → Bool
-rxOnLin a r = isLin (typeOn a (rxFrame a r .node % 16))
+rxOnLin a r = isLin (typeOn a (homeNode a (requestsStart + r)))
 
 -- on a LIN node "expiry queues a request, once while it waits; bit and long counter stay" (document 02, Ticket 2)
 unfoldable pub rxExpiry : List ℕ → ℕ → List ℕ

@@ -1,10 +1,11 @@
 // What the expiry of an Rx timer does: on a LIN node it asks for the frame, on any other it is a timeout.
 use area::claims::write_failure;
+use area::frames::home_node;
+use area::frames::rx_fields_place;
 use area::frames::rx_long;
-use area::frames::rx_node;
-use area::frames::rx_record_place;
 use area::header::node_type;
 use area::layout::ORDER_BYTE;
+use area::layout::REQUESTS_START;
 use area::layout::long;
 use area::queue::request;
 use records::record::NodeType;
@@ -20,8 +21,7 @@ pub fn expiry(area: &mut [u8], r: RxNumber) -> u8
     ensures report { λ x. ⌜ x ≡ expiryReport (now (area .entry)) (r .0) ⌝ }
     ensures bytes { λ x. ⌜ now (area .exit) ≡ rxExpiry (now (area .entry)) (r .0) ⌝ }
 {
-    let at = rx_record_place(area, r);
-    let node = rx_node(area, at);
+    let node = home_node(area, REQUESTS_START + r.0);
     match node_type(area, node) {
         NodeType::Lin => {
             request(area, r);
@@ -39,7 +39,7 @@ pub fn expire(area: &mut [u8], r: RxNumber) -> u8
     ensures bytes { λ x. ⌜ now (area .exit) ≡ expiredArea (now (area .entry)) (r .0) ⌝ }
 {
     let order = area[ORDER_BYTE];
-    let at = rx_record_place(area, r);
+    let at = rx_fields_place(area, r);
     let most = rx_long(area, at);
     let counter = long(r);
     let count = area[counter];

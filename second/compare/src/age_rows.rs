@@ -5,11 +5,13 @@ use std::mem;
 
 use second::bits::Order;
 use second::gateway::Answer;
+use second::id::Id;
 use second::plan::Plan;
 use second::refusal::Refusal;
 use second::taken::TakenFrame;
 
 use crate::ages::{stale, Ages, Fix};
+use crate::format_rows::OTHER_FORMAT;
 use crate::long_counters::passing_by;
 use crate::tally::{
     first_bit_1_row, kept_row, last_bit_0_row, when_due_row, Tally, GREATEST_BOUND, OLDEST, RELOADS,
@@ -52,7 +54,7 @@ impl<'p> AgeRows<'p> {
         }
     }
 
-    pub fn reception(&mut self, node: u8, id: u16, data: [u8; 8], answer: Result<Answer, Refusal>) {
+    pub fn reception(&mut self, node: u8, id: Id, data: [u8; 8], answer: Result<Answer, Refusal>) {
         let is_accepted = answer == Ok(Answer::Accepted);
         if is_accepted {
             self.ages.accept(node, id, data);
@@ -70,6 +72,10 @@ impl<'p> AgeRows<'p> {
             // Before the first handling a reload of the timer changes nothing.
             if seen.handlings > 0 {
                 seen.passed_by.extend(passing_by(is_named, answer));
+                let has_number = row.node == node && row.id.number() == id.number();
+                if is_accepted && has_number && !is_named {
+                    seen.passed_by.insert(OTHER_FORMAT);
+                }
             }
         }
     }
@@ -124,6 +130,9 @@ impl<'p> AgeRows<'p> {
         tally.met("fixes with bit 0");
         if ticks + 1 == fix.bound() {
             tally.met(&last_bit_0_row(fix.row.prescaler));
+            if fix.row.id.is_29_bits() {
+                tally.met("bit 0 at r p - 1 ticks, 29-bit source");
+            }
         }
         self.rows[fix.number].at_last_take = Some((ticks, false));
     }
@@ -138,6 +147,7 @@ impl<'p> AgeRows<'p> {
             // The next expiry, which sets the bit anew, is r times p ticks later.
             (Some((_, true)), Some(expired)) if ticks < expired + fix.bound() => {
                 tally.met(&kept_row("a take"));
+                seen.passed_by.remove(OTHER_FORMAT);
                 for what in mem::take(&mut seen.passed_by) {
                     tally.met(&kept_row(what));
                 }
@@ -173,6 +183,9 @@ impl Seen {
         }
         if ticks == fix.bound() {
             tally.met(&first_bit_1_row(prescaler));
+            if fix.row.id.is_29_bits() {
+                tally.met("bit 1 at r p ticks, 29-bit source");
+            }
             if RELOADS.contains(&reload) {
                 tally.met_pair(at_the_bound, usize::from(prescaler), usize::from(reload));
             }

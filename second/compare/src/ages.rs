@@ -7,6 +7,7 @@
 //! frame's bits from that source are those of that acceptance."
 
 use second::bits;
+use second::id::Id;
 use second::plan::{Plan, RxFrame};
 
 pub struct Ages<'p> {
@@ -54,7 +55,7 @@ impl<'p> Ages<'p> {
         }
     }
 
-    pub fn accept(&mut self, node: u8, id: u16, data: [u8; 8]) {
+    pub fn accept(&mut self, node: u8, id: Id, data: [u8; 8]) {
         for (row, acceptance) in self.plan.rx_frames.iter().zip(&mut self.acceptances) {
             if (row.node, row.id) == (node, id) {
                 let ticks = self.ticks;

@@ -1,11 +1,12 @@
 //! Event streams for a plan, biased to hit its rows and its timers.
 
 use second::bench::handed_on;
+use second::id::Id;
 use second::lin::enhanced_checksum;
 
-use crate::good;
+use crate::ids;
 use crate::rng::Rng;
-use crate::spec::Plan;
+use crate::spec::{id_bytes, Plan};
 
 /// How often each kind of event comes, as weights.
 #[derive(Clone, Copy, Debug)]
@@ -45,28 +46,40 @@ impl<'p> Events<'p> {
         }
     }
 
-    pub fn reception(&mut self, node: u8, id: u16, length: u8, data: [u8; 8]) {
-        let [high, low] = id.to_be_bytes();
-        self.bytes.extend([16, node, high, low, length]);
+    /// Event 16 or 19, as the format of the ID wants it.
+    pub fn reception(&mut self, node: u8, id: impl Into<Id>, length: u8, data: [u8; 8]) {
+        let id = id.into();
+        self.bytes.push(if id.is_29_bits() { 19 } else { 16 });
+        self.bytes.push(node);
+        self.bytes.extend(id_bytes(id));
+        self.bytes.push(length);
         self.bytes.extend(data);
     }
 
-    /// A LIN response.
-    pub fn response(&mut self, node: u8, id: u16, length: u8, data: [u8; 8], checksum: u8) {
-        let [high, low] = id.to_be_bytes();
+    /// A LIN response. Of a 29-bit ID it has the low two bytes.
+    pub fn response(
+        &mut self,
+        node: u8,
+        id: impl Into<Id>,
+        length: u8,
+        data: [u8; 8],
+        checksum: u8,
+    ) {
+        let [high, low] = two_bytes(id).to_be_bytes();
         self.bytes.extend([20, node, high, low, length]);
         self.bytes.extend(data);
         self.bytes.push(checksum);
     }
 
-    pub fn no_response(&mut self, node: u8, id: u16) {
-        let [high, low] = id.to_be_bytes();
+    pub fn no_response(&mut self, node: u8, id: impl Into<Id>) {
+        let [high, low] = two_bytes(id).to_be_bytes();
         self.bytes.extend([21, node, high, low]);
     }
 
     /// A reception, or a response with its right checksum, as the node's type
     /// wants it.
-    pub fn received(&mut self, node: u8, id: u16, length: u8, data: [u8; 8]) {
+    pub fn received(&mut self, node: u8, id: impl Into<Id>, length: u8, data: [u8; 8]) {
+        let id = id.into();
         match self.plan.is_lin(node) {
             true => self.response(node, id, length, data, right_checksum(id, length, &data)),
             false => self.reception(node, id, length, data),
@@ -162,7 +175,7 @@ impl<'p> Events<'p> {
     /// A reception that should find no row, or is refused.
     pub fn miss(&mut self, rng: &mut Rng) {
         let mut node = rng.below(self.plan.nodes + 1) as u8;
-        let mut id = rng.below(2048) as u16;
+        let mut id = ids::some_id(rng);
         let mut length = rng.below(9) as u8;
         if !self.plan.rx.is_empty() {
             let rx = &self.plan.rx[rng.below(self.plan.rx.len())];
@@ -173,13 +186,10 @@ impl<'p> Events<'p> {
         match rng.below(12) {
             0..=2 => node = rng.below(self.plan.nodes + 1) as u8,
             3 => node = rng.pick(&[self.plan.nodes as u8, 16, 128, 255]),
-            4 => id = id.wrapping_add(1),
-            5 => id = id.wrapping_sub(1),
-            6 => id = id.wrapping_add(rng.pick(&[2048, 4096, 0x8000])),
-            7 => {
-                let any = rng.number() as u16;
-                id = rng.pick(&[2048, 0xFFFF, any]);
-            }
+            4 => id = ids::next_id(id, 1),
+            5 => id = ids::next_id(id, -1),
+            6 => id = ids::past_the_range(rng, id),
+            7 => id = ids::strange_id(rng, id),
             8..=10 => (node, id) = self.stranger(rng),
             _ => length = rng.pick(&[9, 10, 11, 12, 128, 255]),
         }
@@ -194,10 +204,15 @@ impl<'p> Events<'p> {
 
     /// A node and an ID that none of its rows has, each run of such IDs as
     /// often as the others.
-    fn stranger(&self, rng: &mut Rng) -> (u8, u16) {
+    fn stranger(&self, rng: &mut Rng) -> (u8, Id) {
         let node = rng.below(self.plan.nodes) as u8;
-        let run = rng.pick(&good::unlisted(self.plan, node));
-        let ids = good::some_of(rng, run);
+        let mut runs = ids::unlisted(self.plan, node);
+        // On plans of 11-bit IDs few are of 29 bits.
+        if self.plan.has_29_bits() || rng.once_in(8) {
+            runs.extend(ids::unlisted_29(self.plan, node));
+        }
+        let run = rng.pick(&runs);
+        let ids = ids::some_of(rng, run);
         (node, rng.pick(&ids))
     }
 
@@ -238,8 +253,13 @@ impl<'p> Events<'p> {
 }
 
 /// The checksum of the bytes that a response of this length hands on.
-pub fn right_checksum(id: u16, length: u8, data: &[u8; 8]) -> u8 {
-    enhanced_checksum(id, &handed_on(length, data))
+pub fn right_checksum(id: impl Into<Id>, length: u8, data: &[u8; 8]) -> u8 {
+    enhanced_checksum(two_bytes(id), &handed_on(length, data))
+}
+
+/// The ID of a LIN call.
+fn two_bytes(id: impl Into<Id>) -> u16 {
+    id.into().number() as u16
 }
 
 /// An ordinary stream: some events of each kind, then everything is shown.

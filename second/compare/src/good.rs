@@ -2,11 +2,14 @@
 
 use std::collections::BTreeSet;
 
+use second::id::Id;
+
 use crate::rng::Rng;
 use crate::spec::{Destination, Plan, Rx, Signal, Tx};
+use crate::widen::widen;
 
 /// The node and the ID of each row.
-pub type Keys = BTreeSet<(u8, u16)>;
+pub type Keys = BTreeSet<(u8, Id)>;
 
 /// How large a plan is to be.
 #[derive(Clone, Copy, Debug)]
@@ -109,9 +112,9 @@ impl Measure {
 }
 
 /// An ID of a LIN node: at the ends, or anywhere.
-fn lin_id(rng: &mut Rng) -> u16 {
+fn lin_id(rng: &mut Rng) -> Id {
     let any = rng.below(60) as u16;
-    rng.pick(&[0, 59, any, any, any, any])
+    Id::Bits11(rng.pick(&[0, 59, any, any, any, any]))
 }
 
 /// Ticket 2: "sizes 1 to 8" on a LIN node.
@@ -132,7 +135,7 @@ fn tx_frame(rng: &mut Rng, measure: Measure) -> Tx {
         node,
         id: match is_lin {
             true => lin_id(rng),
-            false => rng.below(2048) as u16,
+            false => Id::Bits11(rng.below(2048) as u16),
         },
         size,
         prescaler: prescaler(rng),
@@ -161,14 +164,14 @@ pub fn keys(rng: &mut Rng, nodes: usize, lin: usize, count: usize) -> Keys {
         };
         let id = match usize::from(node) >= nodes - lin {
             true => lin_id(rng),
-            false => id as u16,
+            false => Id::Bits11(id as u16),
         };
         keys.insert((node, id));
     }
     keys
 }
 
-fn rx_frame(rng: &mut Rng, node: u8, id: u16, is_lin: bool) -> Rx {
+fn rx_frame(rng: &mut Rng, node: u8, id: Id, is_lin: bool) -> Rx {
     let any_count = rng.below(16) as u8;
     Rx {
         node,
@@ -199,8 +202,23 @@ pub fn signal(rng: &mut Rng, bits: usize) -> Signal {
     }
 }
 
-/// A good plan of the given measure. Without nodes there are no frames.
-pub fn plan(rng: &mut Rng, mut measure: Measure) -> Plan {
+/// A good plan of the given measure, many of them with both formats.
+pub fn plan(rng: &mut Rng, measure: Measure) -> Plan {
+    let mut plan = plan_of_11_bits(rng, measure);
+    widen_some(rng, &mut plan);
+    plan
+}
+
+/// Gives half of the plans 29-bit IDs beside their 11-bit ones. Others have none on
+/// purpose, so that of all plans about a third have both.
+pub fn widen_some(rng: &mut Rng, plan: &mut Plan) {
+    if rng.once_in(2) {
+        widen(rng, plan);
+    }
+}
+
+/// Without nodes there are no frames.
+fn plan_of_11_bits(rng: &mut Rng, mut measure: Measure) -> Plan {
     if measure.nodes == 0 {
         measure.tx = 0;
         measure.rx = 0;
@@ -284,14 +302,38 @@ pub fn small_plan(rng: &mut Rng) -> Plan {
     plan(rng, measure)
 }
 
-/// A small good plan that surely has two nodes, two Tx frames, two rows, two
-/// destinations, and a row with an enabled indicator.
+/// A small good plan that surely has two nodes, two destinations, a row with an
+/// enabled indicator, and of 11 bits two Tx frames and two rows. Half of them have
+/// Tx frames and rows of 29 bits too.
 pub fn rich_plan(rng: &mut Rng) -> Plan {
+    match rng.once_in(2) {
+        true => rich_plan_of_both(rng),
+        false => loop {
+            let nodes = rng.from_to(2, 4);
+            let lin = some_lin(rng, nodes);
+            let plan = rich_plan_of(rng, nodes, lin);
+            if !watched_rows(&plan).is_empty() && destination_count(&plan) >= 2 {
+                return plan;
+            }
+        },
+    }
+}
+
+/// The same, surely of both formats, with an enabled indicator in a row of each,
+/// and perhaps LIN nodes.
+pub fn rich_plan_of_both(rng: &mut Rng) -> Plan {
     loop {
         let nodes = rng.from_to(2, 4);
         let lin = some_lin(rng, nodes);
-        let plan = rich_plan_of(rng, nodes, lin);
-        if !watched_rows(&plan).is_empty() && destination_count(&plan) >= 2 {
+        let mut plan = rich_plan_of(rng, nodes, lin);
+        widen(rng, &mut plan);
+        let watched = watched_rows(&plan).into_iter();
+        let watched: Vec<bool> = watched.map(|row| plan.rx[row].id.is_29_bits()).collect();
+        let frames = plan.tx.iter().filter(|tx| !tx.id.is_29_bits()).count();
+        let rows = plan.rx.iter().filter(|rx| !rx.id.is_29_bits()).count();
+        let is_rich = frames >= 2 && rows >= 2 && frames < plan.tx.len();
+        let has_watched = watched.contains(&true) && watched.contains(&false);
+        if is_rich && has_watched && destination_count(&plan) >= 2 {
             return plan;
         }
     }
@@ -303,7 +345,7 @@ pub fn rich_lin_plan(rng: &mut Rng) -> Plan {
     loop {
         let nodes = rng.from_to(2, 4);
         let lin = rng.from_to(1, nodes - 1);
-        let plan = rich_plan_of(rng, nodes, lin);
+        let mut plan = rich_plan_of(rng, nodes, lin);
         let has_tx = |lin| plan.tx.iter().any(|tx| plan.is_lin(tx.node) == lin);
         let has_rx = |lin| plan.rx.iter().any(|rx| plan.is_lin(rx.node) == lin);
         let has_all = [true, false]
@@ -314,6 +356,7 @@ pub fn rich_lin_plan(rng: &mut Rng) -> Plan {
             .map(|row| plan.rx[row].node)
             .any(|node| plan.is_lin(node));
         if has_all && has_watched && destination_count(&plan) >= 2 {
+            widen_some(rng, &mut plan);
             return plan;
         }
     }
@@ -328,31 +371,7 @@ fn rich_plan_of(rng: &mut Rng, nodes: usize, lin: usize) -> Plan {
         signals: 4,
         destinations: 3,
     };
-    plan(rng, measure)
-}
-
-/// The IDs that no row of the node has, in runs from a lowest to a highest ID.
-/// Those above 2047 are a run of their own.
-pub fn unlisted(plan: &Plan, node: u8) -> Vec<(u16, u16)> {
-    let mut runs = Vec::new();
-    let mut lowest = 0;
-    for row in plan.rx.iter().filter(|rx| rx.node == node) {
-        if lowest < row.id {
-            runs.push((lowest, row.id - 1));
-        }
-        lowest = row.id + 1;
-    }
-    if lowest <= 2047 {
-        runs.push((lowest, 2047));
-    }
-    runs.push((2048, u16::MAX));
-    runs
-}
-
-/// Both ends of a run and an ID of it.
-pub fn some_of(rng: &mut Rng, (lowest, highest): (u16, u16)) -> [u16; 3] {
-    let any = rng.from_to(usize::from(lowest), usize::from(highest));
-    [lowest, any as u16, highest]
+    plan_of_11_bits(rng, measure)
 }
 
 /// The numbers of the rows with an enabled indicator.

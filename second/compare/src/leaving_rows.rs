@@ -7,6 +7,7 @@
 use std::collections::VecDeque;
 
 use second::gateway::{Gateway, Waiting};
+use second::id::Id;
 use second::plan::{NodeType, Plan};
 
 use crate::tally::Tally;
@@ -155,7 +156,7 @@ impl<'p> LeavingRows<'p> {
     }
 
     /// A reception or a response was accepted, and what joined is not yet known.
-    pub fn accepted(&mut self, node: u8, id: u16) {
+    pub fn accepted(&mut self, node: u8, id: Id) {
         let mut rows = self.plan.rx_frames.iter();
         let Some(row) = rows.find(|row| (row.node, row.id) == (node, id)) else {
             return;

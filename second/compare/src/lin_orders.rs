@@ -7,7 +7,8 @@
 
 use second::bench::handed_on;
 use second::gateway::Answer;
-use second::lin::{protected_identifier, GREATEST_ID};
+use second::id::Id;
+use second::lin::{plain, protected_identifier, GREATEST_ID};
 use second::plan::{NodeType, Plan, RxFrame};
 use second::refusal::Refusal;
 
@@ -65,7 +66,7 @@ impl Tally {
     pub fn reception_order(
         &mut self,
         plan: &Plan,
-        (node, id): (u8, u16),
+        (node, id): (u8, Id),
         length: u8,
         answer: Result<Answer, Refusal>,
     ) {
@@ -169,9 +170,9 @@ impl Tally {
         }
         let on_node = || plan.rx_frames.iter().filter(|row| row.node == node);
         let mistaken = [
-            plan.rx_frames.iter().any(|row| row.id == id),
-            id > 63 && on_node().any(|row| row.id == id & 0x3F),
-            on_node().any(|row| u16::from(protected_identifier(row.id)) == id),
+            plan.rx_frames.iter().any(|row| row.id == Id::Bits11(id)),
+            id > 63 && on_node().any(|row| row.id == Id::Bits11(id & 0x3F)),
+            on_node().any(|row| u16::from(protected_identifier(plain(row.id))) == id),
         ];
         for (what, is_so) in MISTAKEN.into_iter().zip(mistaken) {
             if is_so {
@@ -181,7 +182,8 @@ impl Tally {
     }
 }
 
-fn row(plan: &Plan, node: u8, id: u16) -> Option<&RxFrame> {
+fn row(plan: &Plan, node: u8, id: impl Into<Id>) -> Option<&RxFrame> {
+    let id = id.into();
     let mut rows = plan.rx_frames.iter();
     rows.find(|row| (row.node, row.id) == (node, id))
 }

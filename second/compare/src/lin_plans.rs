@@ -3,7 +3,10 @@
 //! Ticket 2: "LIN nodes follow all CAN nodes. IDs there run 0 to 59, sizes 1 to
 //! 8." "Refusals: 3 for a CAN node after a LIN node; 5 for the new ranges".
 
-use second::parse::{two_byte_number, NODE, RX_FRAME, SIGNAL, TX_FRAME};
+use second::id::Id;
+use second::lin::plain;
+use second::parse::{four_byte_number, two_byte_number};
+use second::parse::{NODE, RX_FRAME, RX_FRAME_29, SIGNAL, TX_FRAME};
 use second::plan::{NodeType, Plan};
 use second::refusal::{PlanRefusal, Refusal};
 
@@ -93,10 +96,10 @@ impl Tally {
         }
         let is_lin = |node: u8| plan.node_type(node) == Some(NodeType::Lin);
         for tx in plan.tx_frames.iter().filter(|tx| is_lin(tx.node)) {
-            self.lin_frame(FRAMES[0], tx.id, tx.size);
+            self.lin_frame(FRAMES[0], plain(tx.id), tx.size);
         }
         for rx in plan.rx_frames.iter().filter(|rx| is_lin(rx.node)) {
-            self.lin_frame(FRAMES[1], rx.id, rx.size);
+            self.lin_frame(FRAMES[1], plain(rx.id), rx.size);
             self.met(match rx.failure_enabled {
                 true => "LIN rows with an indicator",
                 false => "LIN rows without an indicator",
@@ -147,7 +150,7 @@ struct BadRecord<'p> {
     /// The types of the nodes before it.
     types_before: Vec<u8>,
     /// The node and the ID of the Rx frame before it.
-    key_before: Option<(u8, u16)>,
+    key_before: Option<(u8, Id)>,
     is_before_lin: bool,
     kind_before: u8,
     /// It stands in the place of a follower.
@@ -164,7 +167,8 @@ impl<'p> BadRecord<'p> {
         let at = |place: usize| plan.get(place).copied().unwrap_or(0);
         let all = places(plan, refused.record + 3);
         let mut record = refused.record;
-        if refused.refusal == Refusal::BadIndicator && at(all[record]) == RX_FRAME {
+        let is_row = |place: usize| matches!(at(place), RX_FRAME | RX_FRAME_29);
+        if refused.refusal == Refusal::BadIndicator && is_row(all[record]) {
             record += 1 + usize::from(at(all[record + 1]) == SIGNAL);
         }
         let (start, end) = (all[record], all[record + 1]);
@@ -173,12 +177,19 @@ impl<'p> BadRecord<'p> {
                 .iter()
                 .filter(move |place| at(**place) == kind)
         };
-        let key = |place: &usize| (at(place + 1), two_byte_number(at(place + 2), at(place + 3)));
+        let rows_before = all[..record].iter().filter(|place| is_row(**place));
+        let key = |place: &usize| {
+            let id = match at(*place) {
+                RX_FRAME => Id::Bits11(two_byte_number(at(place + 2), at(place + 3))),
+                _ => Id::Bits29(four_byte_number(&[2, 3, 4, 5].map(|byte| at(place + byte)))),
+            };
+            (at(place + 1), id)
+        };
         BadRecord {
             kind: at(start),
             body: plan.get(start + 1..end.min(plan.len())).unwrap_or(&[]),
             types_before: before(NODE).map(|place| at(place + 1)).collect(),
-            key_before: before(RX_FRAME).map(key).next_back(),
+            key_before: rows_before.map(key).next_back(),
             is_before_lin: plan.get(end..end + 2) == Some(&[NODE, 1]),
             kind_before: record.checked_sub(1).map_or(0, |before| at(all[before])),
             is_for_9: record > refused.record,
@@ -235,7 +246,7 @@ impl<'p> BadRecord<'p> {
         let mut faults: Vec<Fault> = outside
             .map(|(how, _)| (5, frame, format!(", {how}")))
             .collect();
-        let is_above = self.key_before < Some((*node, id));
+        let is_above = self.key_before < Some((*node, Id::Bits11(id)));
         if self.kind == RX_FRAME && !is_above {
             faults.push((6, frame, String::new()));
         }

@@ -6,6 +6,7 @@ use std::mem;
 
 use second::bench::Event;
 use second::gateway::{Answer, Gateway, Waiting};
+use second::id::Id;
 use second::plan::{NodeType, Plan};
 use second::refusal::Refusal;
 use second::taken::Taken;
@@ -133,7 +134,7 @@ impl<'p> LinRows<'p> {
     }
 
     /// The number of the row on a LIN node.
-    fn lin_row(&self, node: u8, id: u16) -> Option<usize> {
+    fn lin_row(&self, node: u8, id: Id) -> Option<usize> {
         let mut rows = self.plan.rx_frames.iter();
         let number = rows.position(|row| (row.node, row.id) == (node, id))?;
         self.is_lin(node).then_some(number)
@@ -152,7 +153,8 @@ impl<'p> LinRows<'p> {
         answer: Result<Answer, Refusal>,
     ) {
         let (node, id) = match event {
-            Event::Reception { node, id, .. } | Event::Response { node, id, .. } => (node, id),
+            Event::Reception { node, id, .. } => (node, id),
+            Event::Response { node, id, .. } => (node, Id::Bits11(id)),
             _ => return,
         };
         if answer == Ok(Answer::Accepted) {
@@ -164,7 +166,7 @@ impl<'p> LinRows<'p> {
                 self.pass_by(tally, row, what);
             }
             if answer == Ok(Answer::Accepted) {
-                tally.met_pair(LIN_IDS.0, usize::from(id), 0);
+                tally.met_pair(LIN_IDS.0, id.number() as usize, 0);
                 if self.before.failure_bits[row] {
                     tally.met("failure bit cleared by a response");
                 }
@@ -178,7 +180,7 @@ impl<'p> LinRows<'p> {
         &mut self,
         tally: &mut Tally,
         gateway: &Gateway,
-        (node, id): (u8, u16),
+        (node, id): (u8, Id),
         answer: Result<u8, Refusal>,
     ) {
         if let (Some(number), Ok(_)) = (self.lin_row(node, id), answer) {
@@ -212,7 +214,7 @@ impl<'p> LinRows<'p> {
     }
 
     /// The types of the nodes that an accepted payload went from and to.
-    fn copied(&self, tally: &mut Tally, node: u8, id: u16) {
+    fn copied(&self, tally: &mut Tally, node: u8, id: Id) {
         let rows = self.plan.rx_frames.iter();
         for row in rows.filter(|row| (row.node, row.id) == (node, id)) {
             for to in row.signals.iter().flat_map(|s| &s.destinations) {

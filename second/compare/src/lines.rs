@@ -3,6 +3,7 @@
 
 use second::bench::{read_event, split_input, Event};
 use second::gateway::Waiting;
+use second::id::Id;
 use second::parse::parse;
 
 use crate::ages::Ages;
@@ -57,10 +58,9 @@ pub fn broken(input: &[u8], output: &[u8]) -> [Option<String>; 2] {
 /// How the line breaks Ticket 8's sentence, if it does.
 fn of_the_age(ages: &mut Ages, event: Event, line: &str) -> Option<String> {
     match event {
-        Event::Reception { node, id, data, .. } | Event::Response { node, id, data, .. }
-            if line == "rx 0" =>
-        {
-            ages.accept(node, id, data);
+        Event::Reception { node, id, data, .. } if line == "rx 0" => ages.accept(node, id, data),
+        Event::Response { node, id, data, .. } if line == "rx 0" => {
+            ages.accept(node, Id::Bits11(id), data);
         }
         Event::Tick if is_unrefused_tick(line) => ages.tick(),
         Event::Take { .. } => {
@@ -79,8 +79,9 @@ fn of_the_age(ages: &mut Ages, event: Event, line: &str) -> Option<String> {
 /// How the line breaks Ticket 14's sentences, if it does.
 fn of_the_queue(queues: &mut Queues, event: Event, line: &str) -> Option<String> {
     match event {
-        Event::Reception { node, id, .. } | Event::Response { node, id, .. } if line == "rx 0" => {
-            queues.accept(node, id);
+        Event::Reception { node, id, .. } if line == "rx 0" => queues.accept(node, id),
+        Event::Response { node, id, .. } if line == "rx 0" => {
+            queues.accept(node, Id::Bits11(id));
         }
         Event::Tick if is_unrefused_tick(line) => queues.tick(),
         Event::Take { node } => {

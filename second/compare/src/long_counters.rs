@@ -8,9 +8,11 @@ use std::collections::BTreeSet;
 use std::mem;
 
 use second::gateway::Answer;
+use second::id::Id;
 use second::plan::Plan;
 use second::refusal::Refusal;
 
+use crate::format_rows::OTHER_FORMAT;
 use crate::tally::{
     after_restart_row, after_rx_0_row, despite_row, on_lin_row, Tally, LIN_PASSING_BY, PASSING_BY,
 };
@@ -22,7 +24,7 @@ pub struct LongCounters {
 /// The long counter of one row.
 struct LongCounter {
     node: u8,
-    id: u16,
+    id: Id,
     is_on_lin: bool,
     long_count: u32,
     /// The expiries since the last acceptance, or since opening.
@@ -59,11 +61,15 @@ impl LongCounters {
         &mut self,
         tally: &mut Tally,
         node: u8,
-        id: u16,
+        id: Id,
         answer: Result<Answer, Refusal>,
     ) {
         for row in &mut self.rows {
             let is_named = (row.node, row.id) == (node, id);
+            let has_number = row.node == node && row.id.number() == id.number();
+            if answer == Ok(Answer::Accepted) && has_number && !is_named {
+                row.pass_by(OTHER_FORMAT);
+            }
             let passing_by = match row.is_on_lin {
                 true => passing_by_on_lin(is_named, answer),
                 false => passing_by(is_named, answer),
@@ -92,7 +98,7 @@ impl LongCounters {
     }
 
     /// "No response", which is the expiry of a row on a LIN node.
-    pub fn silent(&mut self, tally: &mut Tally, node: u8, id: u16, answer: Result<u8, Refusal>) {
+    pub fn silent(&mut self, tally: &mut Tally, node: u8, id: Id, answer: Result<u8, Refusal>) {
         for row in self.rows.iter_mut().filter(|row| row.is_on_lin) {
             let is_named = (row.node, row.id) == (node, id);
             match answer {
@@ -165,6 +171,9 @@ impl LongCounter {
         self.restarted = self.is_under_way();
         if self.restarted {
             self.met(tally, "restarts of a long counter under way".to_string());
+            if self.id.is_29_bits() {
+                tally.met("restarts of a long counter, 29-bit row");
+            }
         }
         self.in_a_row = 0;
         self.passed_by.clear();
@@ -188,6 +197,9 @@ impl LongCounter {
     fn long_timeout_when_due(&mut self, tally: &mut Tally) {
         if self.restarted && self.in_a_row == self.long_count {
             self.met(tally, after_restart_row(self.long_count));
+            if self.id.is_29_bits() {
+                tally.met("long timeouts after a restart, 29-bit row");
+            }
         }
         for what in mem::take(&mut self.passed_by) {
             self.met(tally, despite_row(what));

@@ -7,11 +7,13 @@
 use second::bench::{handed_on, read_event, split_input, Event};
 use second::bits::Order;
 use second::gateway::{Answer, Gateway};
+use second::id::Id;
 use second::plan::{Plan, Signal};
 use second::refusal::Refusal;
 use second::taken::Taken;
 
 use crate::age_rows::AgeRows;
+use crate::format_rows::{of_29_row, FormatRows, SCHEDULED};
 use crate::lin_rows::LinRows;
 use crate::long_counters::LongCounters;
 use crate::queue_rows::QueueRows;
@@ -72,6 +74,7 @@ impl Tally {
             }
         }
         self.lin_plan(plan);
+        self.format_plan(plan);
     }
 
     fn events(&mut self, mut gateway: Gateway, events: &[u8]) {
@@ -80,6 +83,7 @@ impl Tally {
         let mut age_rows = AgeRows::new(&plan);
         let mut lin_rows = LinRows::new(&plan, &gateway);
         let mut queue_rows = QueueRows::new(&plan);
+        let mut format_rows = FormatRows::new(&plan, &gateway);
         let mut ticks = 0;
         let mut rest = events;
         while !rest.is_empty() {
@@ -88,6 +92,7 @@ impl Tally {
                     true => "input bad as the first event",
                     false => "input bad after events",
                 });
+                self.format_bad_event(rest);
                 break;
             };
             match event {
@@ -102,6 +107,10 @@ impl Tally {
                     let answer = self.received(&mut gateway, node, id, call);
                     self.length(length);
                     self.reception_order(&plan, (node, id), length, answer);
+                    self.format_reception(&plan, (node, id), length, answer);
+                    if let (Some(rows), Ok(Answer::Accepted)) = (&mut format_rows, answer) {
+                        rows.accepted(self, &gateway, node, id);
+                    }
                     long_counters.reception(self, node, id, answer);
                     age_rows.reception(node, id, data, answer);
                     queue_rows.received(self, &gateway, (node, id), answer);
@@ -119,8 +128,13 @@ impl Tally {
                     let handed_on = handed_on(length, &data);
                     let call =
                         |gateway: &mut Gateway| gateway.response(node, id, &handed_on, checksum);
+                    let plain = id;
+                    let id = Id::Bits11(id);
                     let answer = self.received(&mut gateway, node, id, call);
-                    self.response_order(&plan, (node, id), (length, &data, checksum), answer);
+                    self.response_order(&plan, (node, plain), (length, &data, checksum), answer);
+                    if let (Some(rows), Ok(Answer::Accepted)) = (&mut format_rows, answer) {
+                        rows.accepted(self, &gateway, node, id);
+                    }
                     long_counters.reception(self, node, id, answer);
                     age_rows.reception(node, id, data, answer);
                     queue_rows.received(self, &gateway, (node, id), answer);
@@ -131,8 +145,12 @@ impl Tally {
                 Event::NoResponse { node, id } => {
                     let answer = self.silent(&mut gateway, node, id);
                     self.no_response_order(&plan, (node, id), answer);
+                    let id = Id::Bits11(id);
                     long_counters.silent(self, node, id, answer);
                     queue_rows.silent(answer);
+                    if let Some(rows) = &mut format_rows {
+                        rows.silent(&gateway);
+                    }
                     if let Some(rows) = &mut lin_rows {
                         rows.silent(self, &gateway, (node, id), answer);
                     }
@@ -148,13 +166,23 @@ impl Tally {
                     };
                     long_counters.tick(self, &report, &requests);
                     age_rows.tick();
+                    if let Some(rows) = &mut format_rows {
+                        rows.tick(self, &gateway, &report);
+                    }
                 }
                 Event::Take { node } => {
                     let answer = self.take(&mut gateway, node);
                     queue_rows.take(self, node, &answer);
+                    let is_refused = answer.is_err();
                     let taken = answer.ok().flatten();
+                    let mut tx_number = None;
                     if let Some(Taken::Frame(frame)) = &taken {
+                        tx_number = Some(frame.tx_frame);
                         age_rows.take(self, frame);
+                        self.format_take(&plan, frame);
+                    }
+                    if let (Some(rows), false) = (&mut format_rows, is_refused) {
+                        rows.take(self, &gateway, node, tx_number);
                     }
                     if let (Some(rows), Some(taken)) = (&mut lin_rows, &taken) {
                         rows.take(self, &gateway, node, taken);
@@ -181,7 +209,7 @@ impl Tally {
         &mut self,
         gateway: &mut Gateway,
         node: u8,
-        id: u16,
+        id: Id,
         call: impl Fn(&mut Gateway) -> Result<Answer, Refusal>,
     ) -> Result<Answer, Refusal> {
         let failure_bits_before = failure_bits(gateway);
@@ -197,6 +225,7 @@ impl Tally {
                     }
                     Answer::NoMatchingRow { place } => {
                         self.stranger(gateway.plan(), node, id, place);
+                        self.format_stranger(gateway.plan(), node, id, place);
                     }
                     Answer::TooShort | Answer::WrongChecksum => {}
                 }
@@ -209,7 +238,7 @@ impl Tally {
         &mut self,
         gateway: &Gateway,
         node: u8,
-        id: u16,
+        id: Id,
         failure_bits_before: &[bool],
         waiting_before: &[bool],
     ) {
@@ -226,13 +255,18 @@ impl Tally {
             for number in destinations.map(|d| d.tx_frame) {
                 let tx = &plan.tx_frames[number];
                 let waits = gateway.is_waiting(number);
-                match (tx.send_on_reception, tx.send_on_change) {
-                    (true, _) if waiting_before[number] => self.met("scheduled while waiting"),
-                    (true, false) if waits => self.met("sent on reception"),
-                    (false, true) if waiting_before[number] => {}
-                    (false, true) if waits => self.met("sent on change, with a change"),
-                    (false, true) => self.met("sent on change, without a change"),
-                    _ => {}
+                let [on_reception, changed, unchanged, again] = SCHEDULED;
+                let how = match (tx.send_on_reception, tx.send_on_change) {
+                    (true, _) if waiting_before[number] => again,
+                    (true, false) if waits => on_reception,
+                    (false, true) if waiting_before[number] => continue,
+                    (false, true) if waits => changed,
+                    (false, true) => unchanged,
+                    _ => continue,
+                };
+                self.met(how);
+                if tx.id.is_29_bits() {
+                    self.met(&of_29_row(how));
                 }
             }
         }

@@ -2,6 +2,7 @@
 //! their room, and the order in which frames and requests leave.
 
 use second::gateway::{Answer, Gateway, Waiting};
+use second::id::Id;
 use second::plan::Plan;
 use second::refusal::Refusal;
 use second::taken::Taken;
@@ -32,7 +33,7 @@ impl<'p> QueueRows<'p> {
         &mut self,
         tally: &mut Tally,
         gateway: &Gateway,
-        (node, id): (u8, u16),
+        (node, id): (u8, Id),
         answer: Result<Answer, Refusal>,
     ) {
         self.leaving.event(match answer {

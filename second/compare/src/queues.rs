@@ -7,6 +7,7 @@
 //! between."
 
 use second::gateway::Waiting;
+use second::id::Id;
 use second::plan::{Plan, TxFrame};
 
 use crate::broken::Broken;
@@ -89,7 +90,7 @@ impl<'p> Queues<'p> {
 
     /// A reception or a response was accepted: "At each destination the Tx frame
     /// is scheduled if flag 1 is set".
-    pub fn accept(&mut self, node: u8, id: u16) {
+    pub fn accept(&mut self, node: u8, id: Id) {
         let mut rows = self.plan.rx_frames.iter();
         let Some(row) = rows.find(|row| (row.node, row.id) == (node, id)) else {
             return;

@@ -1,7 +1,8 @@
 //! What a plan was refused for, seen from its bytes.
 
 use second::gateway::Gateway;
-use second::parse::{body_length, two_byte_number, DESTINATION, NODE, RX_FRAME, SIGNAL, TX_FRAME};
+use second::parse::{body_length, two_byte_number, DESTINATION, NODE, SIGNAL};
+use second::parse::{RX_FRAME, RX_FRAME_29, TX_FRAME, TX_FRAME_29};
 use second::refusal::{PlanRefusal, Refusal};
 
 use crate::tally::{past_row, Tally, KINDS, LIMITS};
@@ -18,6 +19,7 @@ impl Tally {
             self.met(&format!("{}: {cause}", refused.refusal.number()));
         }
         self.lin_refused(plan, refused);
+        self.format_refused(plan, refused);
     }
 }
 
@@ -42,8 +44,8 @@ fn passed(plan: &[u8], record: usize) -> Vec<(&'static str, usize)> {
         kind = plan[place];
         match kind {
             NODE => counts[0] += 1,
-            TX_FRAME => counts[1] += 1,
-            RX_FRAME => {
+            TX_FRAME | TX_FRAME_29 => counts[1] += 1,
+            RX_FRAME | RX_FRAME_29 => {
                 counts[2] += 1;
                 counts[4] = 0;
             }
@@ -61,8 +63,8 @@ fn passed(plan: &[u8], record: usize) -> Vec<(&'static str, usize)> {
     }
     let of_this_kind: &[usize] = match kind {
         NODE => &[0],
-        TX_FRAME => &[1],
-        RX_FRAME => &[2],
+        TX_FRAME | TX_FRAME_29 => &[1],
+        RX_FRAME | RX_FRAME_29 => &[2],
         SIGNAL => &[3, 4],
         _ => &[5, 6],
     };
@@ -90,7 +92,7 @@ fn cause(plan: &[u8], refused: PlanRefusal) -> Option<String> {
         (Refusal::PassesData, _) => {
             let number = usize::from(two_byte_number(bytes[1], bytes[2]));
             let before = places[..refused.record].iter();
-            let tx_frames = before.filter(|place| plan[**place] == TX_FRAME);
+            let tx_frames = before.filter(|place| matches!(plan[**place], TX_FRAME | TX_FRAME_29));
             match number < tx_frames.count() {
                 true => "destination past the data",
                 false => "no such Tx frame",
@@ -100,8 +102,10 @@ fn cause(plan: &[u8], refused: PlanRefusal) -> Option<String> {
             true => "failure bit",
             false => "destination",
         },
-        (Refusal::BadIndicator, RX_FRAME) if next_kind == Some(&SIGNAL) => "no destination",
-        (Refusal::BadIndicator, RX_FRAME) => "no signal",
+        (Refusal::BadIndicator, RX_FRAME | RX_FRAME_29) => match next_kind {
+            Some(&SIGNAL) => "no destination",
+            _ => "no signal",
+        },
         (Refusal::BadIndicator, _) => "position past the Tx data",
         _ => return None,
     };
@@ -110,11 +114,12 @@ fn cause(plan: &[u8], refused: PlanRefusal) -> Option<String> {
 
 /// Whether the plan up to the last but one of these places is good once the
 /// indicator of its last Rx frame is taken away.
-fn without_indicator(plan: &[u8], places: &[usize]) -> bool {
+pub fn without_indicator(plan: &[u8], places: &[usize]) -> bool {
     let mut plan = plan[..places[places.len() - 1]].to_vec();
-    let is_row = |place: &&usize| plan.get(**place) == Some(&RX_FRAME);
+    let is_row = |place: &&usize| matches!(plan.get(**place), Some(&RX_FRAME | &RX_FRAME_29));
     if let Some(row) = places.iter().rev().find(is_row) {
-        plan[row + 8] = 0;
+        let enable = if plan[*row] == RX_FRAME { 8 } else { 10 };
+        plan[row + enable] = 0;
     }
     Gateway::open(&plan).is_ok()
 }

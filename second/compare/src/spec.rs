@@ -1,6 +1,8 @@
 //! A plan as it is about to be written, its records, and the input of the
 //! bench program. Nothing here is checked: plans may be wrong on purpose.
 
+use second::id::Id;
+
 #[derive(Clone, Debug, Default)]
 pub struct Plan {
     pub order: u8,
@@ -14,7 +16,7 @@ pub struct Plan {
 #[derive(Clone, Debug)]
 pub struct Tx {
     pub node: u8,
-    pub id: u16,
+    pub id: Id,
     pub size: u8,
     pub prescaler: u8,
     pub reload: u8,
@@ -26,7 +28,7 @@ pub struct Tx {
 #[derive(Clone, Debug)]
 pub struct Rx {
     pub node: u8,
-    pub id: u16,
+    pub id: Id,
     pub size: u8,
     pub prescaler: u8,
     pub reload: u8,
@@ -59,13 +61,44 @@ pub const TX: u8 = 3;
 pub const RX: u8 = 4;
 pub const SIGNAL: u8 = 5;
 pub const DESTINATION: u8 = 6;
+/// With 29-bit IDs.
+pub const TX_29: u8 = 7;
+pub const RX_29: u8 = 8;
+
+/// The kind, the node and the ID of a frame; the kinds are those of the two
+/// formats.
+fn frame_start(kinds: [u8; 2], node: u8, id: Id) -> Record {
+    let [of_11, of_29] = kinds;
+    let mut record = match id {
+        Id::Bits11(_) => vec![of_11, node],
+        Id::Bits29(_) => vec![of_29, node],
+    };
+    record.extend(id_bytes(id));
+    record
+}
+
+/// An ID as records and events have it, with the high byte first.
+pub fn id_bytes(id: Id) -> Vec<u8> {
+    match id {
+        Id::Bits11(number) => number.to_be_bytes().to_vec(),
+        Id::Bits29(number) => number.to_be_bytes().to_vec(),
+    }
+}
+
+/// Where the size stands in the record of a frame.
+pub fn size_place(record: &Record) -> usize {
+    match record[0] {
+        TX_29 | RX_29 => 6,
+        _ => 4,
+    }
+}
 
 impl Tx {
     /// A stopped Tx frame with an empty payload.
-    pub fn quiet(node: u8, id: u16, size: u8) -> Tx {
+    pub fn quiet(node: u8, id: impl Into<Id>, size: u8) -> Tx {
         Tx {
             node,
-            id,
+            id: id.into(),
             size,
             prescaler: 1,
             reload: 0,
@@ -76,9 +109,9 @@ impl Tx {
     }
 
     pub fn record(&self) -> Record {
-        let [high, low] = self.id.to_be_bytes();
-        let mut record = vec![TX, self.node, high, low, self.size];
-        record.extend([self.prescaler, self.reload, self.timer, self.flags]);
+        let mut record = frame_start([TX, TX_29], self.node, self.id);
+        record.extend([self.size, self.prescaler, self.reload, self.timer]);
+        record.push(self.flags);
         record.extend(self.payload);
         record
     }
@@ -86,10 +119,10 @@ impl Tx {
 
 impl Rx {
     /// A stopped Rx frame without an indicator.
-    pub fn quiet(node: u8, id: u16, size: u8) -> Rx {
+    pub fn quiet(node: u8, id: impl Into<Id>, size: u8) -> Rx {
         Rx {
             node,
-            id,
+            id: id.into(),
             size,
             prescaler: 1,
             reload: 0,
@@ -102,7 +135,7 @@ impl Rx {
     }
 
     /// A stopped Rx frame with an enabled indicator.
-    pub fn watched(node: u8, id: u16, size: u8, failure_position: u8) -> Rx {
+    pub fn watched(node: u8, id: impl Into<Id>, size: u8, failure_position: u8) -> Rx {
         Rx {
             enable: 1,
             failure_position,
@@ -111,9 +144,8 @@ impl Rx {
     }
 
     pub fn record(&self) -> Record {
-        let [high, low] = self.id.to_be_bytes();
-        let mut record = vec![RX, self.node, high, low, self.size];
-        record.extend([self.prescaler, self.reload, self.timer]);
+        let mut record = frame_start([RX, RX_29], self.node, self.id);
+        record.extend([self.size, self.prescaler, self.reload, self.timer]);
         record.extend([self.enable, self.failure_position, self.long_count]);
         record
     }
@@ -144,6 +176,13 @@ impl Plan {
     /// Ticket 2: "LIN nodes follow all CAN nodes."
     pub fn is_lin(&self, node: u8) -> bool {
         (self.nodes - self.lin..self.nodes).contains(&usize::from(node))
+    }
+
+    /// Whether a frame has a 29-bit ID.
+    pub fn has_29_bits(&self) -> bool {
+        let tx = self.tx.iter().map(|tx| tx.id);
+        let rx = self.rx.iter().map(|rx| rx.id);
+        tx.chain(rx).any(Id::is_29_bits)
     }
 
     /// The numbers of the rows on LIN nodes.
@@ -186,6 +225,22 @@ pub fn input_with_length(length: usize, plan: &[u8], events: &[u8]) -> Vec<u8> {
     bytes.extend(plan);
     bytes.extend(events);
     bytes
+}
+
+/// The places of the rows of both formats.
+pub fn places_of_rows(records: &[Record]) -> Vec<usize> {
+    let mut places = places_of(records, RX);
+    places.extend(places_of(records, RX_29));
+    places.sort_unstable();
+    places
+}
+
+/// The places of the Tx frames of both formats.
+pub fn places_of_frames(records: &[Record]) -> Vec<usize> {
+    let mut places = places_of(records, TX);
+    places.extend(places_of(records, TX_29));
+    places.sort_unstable();
+    places
 }
 
 /// The places of the records of a kind.

@@ -1,19 +1,23 @@
 //! What the cases met: a table of counts, each of which must be above 0, and
 //! of pairs, all of which must be met: the positions and sizes of signals
 //! copied, the places of strangers, the sources at their oldest, the IDs of
-//! responses, full queues, and those ahead in a queue.
+//! responses, the lengths of cut records, full queues, and those ahead in a
+//! queue.
 
 use std::collections::{BTreeMap, BTreeSet};
 
+use crate::format_calls::{self, CUT_EVENT};
+use crate::format_faults::{self, CUTS};
 use crate::leaving_rows::{self, LEAVING_PAIRS};
 use crate::room_rows::{self, ROOM_PAIRS};
 use crate::shapes::Shapes;
-use crate::{checksums, lin_orders, lin_plans, lin_rows};
+use crate::{checksums, format_places, format_plans, format_rows};
+use crate::{lin_orders, lin_plans, lin_rows};
 
 pub struct Tally {
     counts: BTreeMap<String, u64>,
     /// The pairs of each row that counts pairs: those of `COPIED`, `PLACES`,
-    /// `OLDEST`, `LIN_IDS`, `ROOM_PAIRS` and `LEAVING_PAIRS`.
+    /// `OLDEST`, `LIN_IDS`, `CUTS`, `CUT_EVENT`, `ROOM_PAIRS` and `LEAVING_PAIRS`.
     pairs: BTreeMap<&'static str, BTreeSet<(usize, usize)>>,
 }
 
@@ -33,13 +37,15 @@ pub const PRESCALERS: [u8; 4] = [1, 2, 10, 20];
 pub const INPUT_LENGTHS: [usize; 3] = [65_535, 65_536, 65_537];
 
 /// The kinds of records, by their kind byte from 1.
-pub const KINDS: [&str; 6] = [
+pub const KINDS: [&str; 8] = [
     "head",
     "node",
     "Tx frame",
     "Rx frame",
     "signal",
     "destination",
+    "29-bit Tx frame",
+    "29-bit Rx frame",
 ];
 
 /// The pairs of a position and a size whose sum is at most 64.
@@ -160,6 +166,14 @@ fn sections() -> Vec<(&'static str, Vec<String>)> {
         ("LIN: calls", lin_orders::rows()),
         ("LIN: checksums", checksums::rows()),
         ("LIN: requests and frames", lin_rows::rows()),
+        ("29-bit IDs: good plans", format_plans::rows()),
+        (
+            "29-bit IDs: what a plan was refused for",
+            format_faults::rows(),
+        ),
+        ("29-bit IDs: receptions and takes", format_calls::rows()),
+        ("29-bit IDs: places of strangers", format_places::rows()),
+        ("29-bit IDs: the rest of the rules", format_rows::rows()),
         ("room of a queue", room_rows::rows()),
         ("leaving order of a queue", leaving_rows::rows()),
         (
@@ -357,6 +371,9 @@ pub fn made_row(shape: &str) -> String {
         Some(("records", what)) if what.ends_with(" cut") => "records: one cut",
         Some(("records", what)) if what.starts_with("kind ") => "records: one inserted",
         Some(("input", what)) if what.starts_with("reception cut") => "input: reception cut",
+        Some(("input", what)) if what.starts_with("29-bit reception cut") => {
+            "input: 29-bit reception cut"
+        }
         Some(("input", what)) if what.starts_with("response cut") => "input: response cut",
         Some(("input", what)) if what.starts_with("no response cut") => "input: no response cut",
         Some(("records" | "input", _)) => shape,
@@ -366,6 +383,7 @@ pub fn made_row(shape: &str) -> String {
         Some(("ages", _)) => "takes around the expiry of a source",
         Some(("queues", _)) => "queues filled, wrapped and drained",
         Some(("lin", _)) => "LIN nodes, their calls and requests",
+        Some(("formats", _)) => "IDs of both formats, their rows and frames",
         Some(("field", _)) => "a field at or past the end of its range",
         Some(("follower", _)) => "a missing or bad follower",
         Some(("owners", _)) => "bits with two owners, or nearly",
@@ -387,6 +405,7 @@ fn least_count(row: &str) -> u64 {
     let copied = copied.map(|side| (*side, PAIRS));
     let of_queues = ROOM_PAIRS.into_iter().chain(LEAVING_PAIRS);
     let others = PLACES.into_iter().chain(OLDEST).chain([LIN_IDS]);
+    let others = others.chain(CUTS).chain([CUT_EVENT]);
     let mut all_pairs = copied.chain(others).chain(of_queues);
     let of_row = all_pairs.find(|(name, _)| *name == row);
     of_row.map_or(1, |(_, pairs)| pairs)

@@ -1,7 +1,8 @@
 //! The bench program: events in, lines out.
 
 use crate::gateway::{Answer, Gateway};
-use crate::parse::two_byte_number;
+use crate::id::Id;
+use crate::parse::{four_byte_number, two_byte_number};
 use crate::refusal::Refusal;
 use crate::taken::{Taken, TakenFrame, TakenRequest};
 
@@ -13,10 +14,11 @@ const INPUT_BAD: &str = "input bad";
 /// One event record.
 #[derive(Clone, Copy, Debug, PartialEq, Eq)]
 pub enum Event {
-    /// "kind 16 reception (node 1, ID 2, length 1, data 8)"
+    /// "kind 16 reception (node 1, ID 2, length 1, data 8)". Ticket 6: "Bench
+    /// event kind 19 is such a reception, four-byte ID."
     Reception {
         node: u8,
-        id: u16,
+        id: Id,
         length: u8,
         data: [u8; 8],
     },
@@ -100,6 +102,7 @@ pub fn read_event(bytes: &[u8]) -> Option<(Event, &[u8])> {
         16 => 12,
         17 => 0,
         18 => 1,
+        19 => 14,
         20 => 13,
         21 => 3,
         _ => return None,
@@ -108,12 +111,18 @@ pub fn read_event(bytes: &[u8]) -> Option<(Event, &[u8])> {
     let event = match kind {
         16 => Event::Reception {
             node: body[0],
-            id: two_byte_number(body[1], body[2]),
+            id: Id::Bits11(two_byte_number(body[1], body[2])),
             length: body[3],
             data: eight_bytes(&body[4..12]),
         },
         17 => Event::Tick,
         18 => Event::Take { node: body[0] },
+        19 => Event::Reception {
+            node: body[0],
+            id: Id::Bits29(four_byte_number(&body[1..5])),
+            length: body[5],
+            data: eight_bytes(&body[6..14]),
+        },
         20 => Event::Response {
             node: body[0],
             id: two_byte_number(body[1], body[2]),
@@ -219,7 +228,7 @@ fn tick_line(report: &[u8]) -> String {
 }
 
 /// "`take TX ID SIZE PAYLOAD WAITING`, numbers decimal, payload lower-case
-/// hex, `-` for size 0."
+/// hex, `-` for size 0." Ticket 6: "the bench puts `e` before such an ID."
 fn frame_line(taken: &TakenFrame) -> String {
     let mut payload = String::new();
     for byte in &taken.payload {

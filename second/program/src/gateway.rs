@@ -4,6 +4,7 @@
 use std::collections::VecDeque;
 
 use crate::bits;
+use crate::id::Id;
 use crate::lin;
 use crate::parse;
 use crate::plan::{NodeType, Plan};
@@ -161,15 +162,24 @@ impl Gateway {
         bits::get(self.plan.order, payload, position)
     }
 
-    /// "Reception takes node, ID and payload."
-    pub fn receive(&mut self, node: u8, id: u16, payload: &[u8]) -> Result<Answer, Refusal> {
+    /// "Reception takes node, ID and payload." Ticket 6: "A reception and a take
+    /// say which format".
+    pub fn receive(
+        &mut self,
+        node: u8,
+        id: impl Into<Id>,
+        payload: &[u8],
+    ) -> Result<Answer, Refusal> {
+        let id = id.into();
         self.require_node(node)?;
-        // Ticket 2: "the old reception gives 16 on a LIN node, after 12."
+        // Ticket 2: "the old reception gives 16 on a LIN node, after 12." So does
+        // that of a 29-bit ID.
         require(self.is_of_type(node, NodeType::Can), Refusal::NotOfThisNode)?;
         require(payload.len() <= 8, Refusal::PayloadTooLong)?;
 
         // "A frame with no matching row is not processed further: answer 1,
-        // nothing changes; an ID above 2047 is such a frame."
+        // nothing changes; an ID above 2047 is such a frame." So is a 29-bit ID
+        // above 536,870,911.
         let Some(rx_number) = self.find_row(node, id) else {
             let place = self.place(node, id);
             return Ok(Answer::NoMatchingRow { place });
@@ -219,14 +229,17 @@ impl Gateway {
     }
 
     /// "Lookup searches that node's rows only". At most one row matches, since
-    /// rows rise, so the way of searching cannot be seen from outside.
-    pub(crate) fn find_row(&self, node: u8, id: u16) -> Option<usize> {
+    /// rows rise, so the way of searching cannot be seen from outside. Ticket 6:
+    /// "ID 32 in one format is not ID 32 in the other."
+    pub(crate) fn find_row(&self, node: u8, id: Id) -> Option<usize> {
         let rows = &self.plan.rx_frames;
         rows.iter().position(|row| row.node == node && row.id == id)
     }
 
-    /// Ticket 4: "how many of that node's rows have a smaller ID".
-    fn place(&self, node: u8, id: u16) -> usize {
+    /// Ticket 4: "how many of that node's rows have a smaller ID". Ticket 6:
+    /// "Within a node 11-bit rows come before 29-bit ones, each in ascending
+    /// order, and the place of Ticket 4 counts in that order."
+    fn place(&self, node: u8, id: Id) -> usize {
         let rows = self.plan.rx_frames.iter();
         rows.filter(|row| row.node == node && row.id < id).count()
     }
@@ -349,8 +362,8 @@ impl Gateway {
         let on_lin = self
             .is_of_type(tx_frame.node, NodeType::Lin)
             .then(|| OnLin {
-                protected_identifier: lin::protected_identifier(tx_frame.id),
-                checksum: lin::enhanced_checksum(tx_frame.id, &payload),
+                protected_identifier: lin::protected_identifier(lin::plain(tx_frame.id)),
+                checksum: lin::enhanced_checksum(lin::plain(tx_frame.id), &payload),
             });
         TakenFrame {
             tx_frame: tx_number,
@@ -366,10 +379,10 @@ impl Gateway {
         let rx_frame = &self.plan.rx_frames[rx_number];
         TakenRequest {
             rx_frame: rx_number,
-            id: rx_frame.id,
+            id: lin::plain(rx_frame.id),
             size: rx_frame.size,
             waiting,
-            protected_identifier: lin::protected_identifier(rx_frame.id),
+            protected_identifier: lin::protected_identifier(lin::plain(rx_frame.id)),
         }
     }
 

@@ -7,6 +7,7 @@
 pub mod bench;
 pub mod bits;
 pub mod gateway;
+pub mod id;
 pub mod lin;
 pub mod parse;
 pub mod plan;

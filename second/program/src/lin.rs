@@ -1,8 +1,19 @@
 //! LIN: the protected identifier and the enhanced checksum.
 
+use crate::id::Id;
+
 /// Ticket 2: "IDs there run 0 to 59, sizes 1 to 8."
 pub const GREATEST_ID: u16 = 59;
 pub const LEAST_SIZE: usize = 1;
+
+/// The number of an ID on a LIN node. Ticket 6: "5 for these on a LIN node", so
+/// all of them are of 11 bits.
+pub fn plain(id: Id) -> u16 {
+    match id {
+        Id::Bits11(number) => number,
+        Id::Bits29(number) => unreachable!("the 29-bit ID {number} on a LIN node"),
+    }
+}
 
 /// Ticket 2: "bit 6 is the exclusive or of ID bits 0, 1, 2 and 4; bit 7 the
 /// inverse of that of bits 1, 3, 4 and 5." Bits above 5 of the ID are not

@@ -1,5 +1,5 @@
-//! The second program: the bench program of document 01, with Tickets 1, 2 and
-//! 4 of document 02.
+//! The second program: the bench program of document 01, with Tickets 1, 2, 4
+//! and 6 of document 02.
 //!
 //! How it was kept apart: this package was written from these documents and the
 //! team's decisions on what they leave open, without the Rattle sources, their

@@ -1,6 +1,7 @@
 //! Reading and checking a plan.
 
 use crate::bits::Order;
+use crate::id::{Id, GREATEST_11, GREATEST_29};
 use crate::lin;
 use crate::plan::{Destination, NodeType, Plan, RxFrame, Signal, TxFrame};
 use crate::refusal::{require, PlanRefusal, Refusal};
@@ -11,9 +12,14 @@ pub const TX_FRAME: u8 = 3;
 pub const RX_FRAME: u8 = 4;
 pub const SIGNAL: u8 = 5;
 pub const DESTINATION: u8 = 6;
+// Ticket 6: "Kinds 7 and 8 are Tx and Rx frames with a four-byte ID .. otherwise
+// as 3 and 4."
+pub const TX_FRAME_29: u8 = 7;
+pub const RX_FRAME_29: u8 = 8;
 
 // "At most 16 nodes, 256 Tx frames, 256 Rx frames, 1,024 signals (64 in a
-// frame), 2,048 destinations (15 for a signal)."
+// frame), 2,048 destinations (15 for a signal)." Tx frames of both formats are
+// counted together, and so are Rx frames.
 pub const MOST_NODES: usize = 16;
 pub const MOST_TX_FRAMES: usize = 256;
 pub const MOST_RX_FRAMES: usize = 256;
@@ -22,7 +28,8 @@ pub const MOST_SIGNALS_IN_A_FRAME: usize = 64;
 pub const MOST_DESTINATIONS: usize = 2048;
 pub const MOST_DESTINATIONS_FOR_A_SIGNAL: usize = 15;
 
-/// How many bytes follow the kind byte; nothing if "the kind is not 1–6".
+/// How many bytes follow the kind byte; nothing if "the kind is not 1–6", or
+/// with Ticket 6 not 1–8.
 pub fn body_length(kind: u8) -> Option<usize> {
     match kind {
         HEAD => Some(1),
@@ -31,6 +38,8 @@ pub fn body_length(kind: u8) -> Option<usize> {
         RX_FRAME => Some(10),
         SIGNAL => Some(2),
         DESTINATION => Some(3),
+        TX_FRAME_29 => Some(18),
+        RX_FRAME_29 => Some(12),
         _ => None,
     }
 }
@@ -127,9 +136,9 @@ impl SoFar {
         match kind {
             HEAD => self.read_head(body)?,
             NODE => self.read_node(body)?,
-            TX_FRAME => self.read_tx_frame(body)?,
-            RX_FRAME => {
-                self.read_rx_frame(body)?;
+            TX_FRAME | TX_FRAME_29 => self.read_tx_frame(kind, body)?,
+            RX_FRAME | RX_FRAME_29 => {
+                self.read_rx_frame(kind, body)?;
                 self.rx_record = record;
             }
             SIGNAL => self.read_signal(body)?,
@@ -141,7 +150,8 @@ impl SoFar {
 
     /// "One head first, then nodes, then Tx frames, then Rx frames, each
     /// followed by its signals, each followed by its destinations." "None is a
-    /// lawful count of each; a head alone is a plan."
+    /// lawful count of each; a head alone is a plan." Frames of either format
+    /// stand where the other's do, in any turn.
     fn may_stand_here(&self, kind: u8, body: &[u8]) -> bool {
         let Some(before) = self.kind_before else {
             return kind == HEAD;
@@ -149,9 +159,11 @@ impl SoFar {
         match kind {
             HEAD => false,
             NODE => matches!(before, HEAD | NODE) && !self.is_can_after_lin(body),
-            TX_FRAME => matches!(before, HEAD | NODE | TX_FRAME),
-            RX_FRAME => true,
-            SIGNAL => matches!(before, RX_FRAME | SIGNAL | DESTINATION),
+            TX_FRAME | TX_FRAME_29 => {
+                matches!(before, HEAD | NODE | TX_FRAME | TX_FRAME_29)
+            }
+            RX_FRAME | RX_FRAME_29 => true,
+            SIGNAL => matches!(before, RX_FRAME | RX_FRAME_29 | SIGNAL | DESTINATION),
             _ => matches!(before, SIGNAL | DESTINATION),
         }
     }
@@ -183,20 +195,21 @@ impl SoFar {
     /// "node 1, ID 2, size 1, prescaler 1, reload 1, initial timer 1, flags 1
     /// (1 send on reception, 2 send on change, 3 both, 0 neither), initial
     /// payload 8"
-    fn read_tx_frame(&mut self, body: &[u8]) -> Result<(), Refusal> {
+    fn read_tx_frame(&mut self, kind: u8, body: &[u8]) -> Result<(), Refusal> {
         let tx_count = self.plan.tx_frames.len();
         require(tx_count < MOST_TX_FRAMES, Refusal::CountPassed)?;
 
-        let flags = body[7];
+        let (node, id, fields) = node_and_id(kind, body);
+        let flags = fields[4];
         let mut initial_payload = [0; 8];
-        initial_payload.copy_from_slice(&body[8..16]);
+        initial_payload.copy_from_slice(&fields[5..13]);
         let tx_frame = TxFrame {
-            node: body[0],
-            id: two_byte_number(body[1], body[2]),
-            size: usize::from(body[3]),
-            prescaler: body[4],
-            reload: body[5],
-            initial_timer: body[6],
+            node,
+            id,
+            size: usize::from(fields[0]),
+            prescaler: fields[1],
+            reload: fields[2],
+            initial_timer: fields[3],
             send_on_reception: flags == 1 || flags == 3,
             send_on_change: flags == 2 || flags == 3,
             initial_payload,
@@ -215,21 +228,22 @@ impl SoFar {
 
     /// "node 1, ID 2, size 1, prescaler 1, reload 1, initial timer 1, failure
     /// enable 1, failure position 1, long count 1"
-    fn read_rx_frame(&mut self, body: &[u8]) -> Result<(), Refusal> {
+    fn read_rx_frame(&mut self, kind: u8, body: &[u8]) -> Result<(), Refusal> {
         let rx_count = self.plan.rx_frames.len();
         require(rx_count < MOST_RX_FRAMES, Refusal::CountPassed)?;
 
-        let enable = body[7];
+        let (node, id, fields) = node_and_id(kind, body);
+        let enable = fields[4];
         let rx_frame = RxFrame {
-            node: body[0],
-            id: two_byte_number(body[1], body[2]),
-            size: usize::from(body[3]),
-            prescaler: body[4],
-            reload: body[5],
-            initial_timer: body[6],
+            node,
+            id,
+            size: usize::from(fields[0]),
+            prescaler: fields[1],
+            reload: fields[2],
+            initial_timer: fields[3],
             failure_enabled: enable == 1,
-            failure_position: usize::from(body[8]),
-            long_count: body[9],
+            failure_position: usize::from(fields[5]),
+            long_count: fields[6],
             signals: Vec::new(),
         };
         self.require_frame_ranges(rx_frame.node, rx_frame.id, rx_frame.size)?;
@@ -238,7 +252,8 @@ impl SoFar {
         require(rx_frame.failure_position <= 63, Refusal::OutsideRange)?;
         require(rx_frame.long_count <= 15, Refusal::OutsideRange)?;
 
-        // "an Rx frame's (node, ID) is not above that of the one before"
+        // "an Rx frame's (node, ID) is not above that of the one before". Ticket
+        // 6: "6 uses the new order".
         if let Some(before) = self.plan.rx_frames.last() {
             let above = (rx_frame.node, rx_frame.id) > (before.node, before.id);
             require(above, Refusal::NotAbove)?;
@@ -323,15 +338,32 @@ impl SoFar {
     }
 
     /// "node below the node count; ID 0–2047; size 0–8". Ticket 2: "IDs there
-    /// run 0 to 59, sizes 1 to 8."
-    fn require_frame_ranges(&self, node: u8, id: u16, size: usize) -> Result<(), Refusal> {
-        let (greatest_id, least_size) = match self.plan.node_type(node) {
-            None => return Err(Refusal::OutsideRange),
-            Some(NodeType::Can) => (2047, 0),
-            Some(NodeType::Lin) => (lin::GREATEST_ID, lin::LEAST_SIZE),
+    /// run 0 to 59, sizes 1 to 8." Ticket 6: "0 to 536,870,911"; "5 for these on a
+    /// LIN node".
+    fn require_frame_ranges(&self, node: u8, id: Id, size: usize) -> Result<(), Refusal> {
+        let (greatest_id, least_size) = match (self.plan.node_type(node), id) {
+            (None, _) => return Err(Refusal::OutsideRange),
+            (Some(NodeType::Can), Id::Bits11(_)) => (Id::Bits11(GREATEST_11), 0),
+            (Some(NodeType::Can), Id::Bits29(_)) => (Id::Bits29(GREATEST_29), 0),
+            (Some(NodeType::Lin), Id::Bits11(_)) => (Id::Bits11(lin::GREATEST_ID), lin::LEAST_SIZE),
+            (Some(NodeType::Lin), Id::Bits29(_)) => return Err(Refusal::OutsideRange),
         };
         require(id <= greatest_id, Refusal::OutsideRange)?;
         require((least_size..=8).contains(&size), Refusal::OutsideRange)
+    }
+}
+
+/// "node 1, ID 2", or Ticket 6: "a four-byte ID", and the fields after them.
+fn node_and_id(kind: u8, body: &[u8]) -> (u8, Id, &[u8]) {
+    match kind {
+        TX_FRAME_29 | RX_FRAME_29 => {
+            let id = Id::Bits29(four_byte_number(&body[1..5]));
+            (body[0], id, &body[5..])
+        }
+        _ => {
+            let id = Id::Bits11(two_byte_number(body[1], body[2]));
+            (body[0], id, &body[3..])
+        }
     }
 }
 
@@ -360,4 +392,13 @@ fn own(tx_frame: &mut TxFrame, bit: usize) -> Result<(), Refusal> {
 /// "Two-byte numbers have the high byte first."
 pub fn two_byte_number(high: u8, low: u8) -> u16 {
     u16::from(high) * 256 + u16::from(low)
+}
+
+/// Four-byte numbers too.
+pub fn four_byte_number(bytes: &[u8]) -> u32 {
+    let mut number = 0;
+    for byte in bytes {
+        number = number * 256 + u32::from(*byte);
+    }
+    number
 }

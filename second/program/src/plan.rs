@@ -1,6 +1,7 @@
 //! What a good plan says.
 
 use crate::bits::Order;
+use crate::id::Id;
 
 /// "One plan has one order." "Nodes, Tx and Rx frames are numbered from 0":
 /// the number of a frame is its place in its vector.
@@ -22,7 +23,7 @@ pub enum NodeType {
 #[derive(Clone, Debug)]
 pub struct TxFrame {
     pub node: u8,
-    pub id: u16,
+    pub id: Id,
     pub size: usize,
     pub prescaler: u8,
     pub reload: u8,
@@ -37,7 +38,7 @@ pub struct TxFrame {
 #[derive(Clone, Debug)]
 pub struct RxFrame {
     pub node: u8,
-    pub id: u16,
+    pub id: Id,
     pub size: usize,
     pub prescaler: u8,
     pub reload: u8,

@@ -7,15 +7,16 @@
 pub enum Refusal {
     /// "the input is empty, or the record runs past its end"
     PastTheEnd = 1,
-    /// "the kind is not 1–6"
+    /// "the kind is not 1–6". Ticket 6: "2 begins past the new kinds", so not 1–8.
     UnknownKind = 2,
     /// "the kind may not stand here"
     KindNotHere = 3,
     /// "a count above is passed"
     CountPassed = 4,
-    /// "a field is outside its range"
+    /// "a field is outside its range". Ticket 6: "5 for these on a LIN node".
     OutsideRange = 5,
-    /// "an Rx frame's (node, ID) is not above that of the one before"
+    /// "an Rx frame's (node, ID) is not above that of the one before". Ticket 6:
+    /// "6 uses the new order".
     NotAbove = 6,
     /// "a signal or destination passes its frame's data, or the Tx frame does
     /// not exist"

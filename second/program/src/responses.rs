@@ -1,6 +1,7 @@
 //! The two calls for LIN nodes: a response, and no response.
 
 use crate::gateway::{Answer, Gateway};
+use crate::id::Id;
 use crate::lin::enhanced_checksum;
 use crate::plan::NodeType;
 use crate::refusal::{require, Refusal};
@@ -41,6 +42,7 @@ impl Gateway {
     fn require_lin_row(&self, node: u8, id: u16) -> Result<usize, Refusal> {
         self.require_node(node)?;
         require(self.is_of_type(node, NodeType::Lin), Refusal::NotOfThisNode)?;
-        self.find_row(node, id).ok_or(Refusal::NotOfThisNode)
+        let row = self.find_row(node, Id::Bits11(id));
+        row.ok_or(Refusal::NotOfThisNode)
     }
 }

@@ -1,5 +1,7 @@
 //! What a take hands back.
 
+use crate::id::Id;
+
 /// Ticket 2: "A take answers a request .. or a frame".
 #[derive(Clone, Debug, PartialEq, Eq)]
 pub enum Taken {
@@ -8,11 +10,11 @@ pub enum Taken {
 }
 
 /// "its Tx number, ID, size, how many still wait on that node, and its payload
-/// of that size".
+/// of that size". Ticket 6: "A reception and a take say which format".
 #[derive(Clone, Debug, PartialEq, Eq)]
 pub struct TakenFrame {
     pub tx_frame: usize,
-    pub id: u16,
+    pub id: Id,
     pub size: usize,
     pub waiting: usize,
     pub payload: Vec<u8>,
@@ -29,6 +31,7 @@ pub struct OnLin {
 }
 
 /// Ticket 2: "a request (Rx number, ID, size, waiting count, the empty part".
+/// Requests are on LIN nodes, where an ID is of 11 bits.
 #[derive(Clone, Copy, Debug, PartialEq, Eq)]
 pub struct TakenRequest {
     pub rx_frame: usize,

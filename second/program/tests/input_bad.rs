@@ -45,7 +45,7 @@ fn cut_event_records() {
 
 #[test]
 fn unknown_event_records_end_it() {
-    for kind in [0, 1, 15, 19, 22, 255] {
+    for kind in [0, 1, 15, 22, 255] {
         let events = join(&[TICK, [kind], TICK]);
         let expected = ["plan ok 1 0 0", "tick", "input bad"];
         assert_eq!(lines(&one_node(), &events), expected);
@@ -54,7 +54,7 @@ fn unknown_event_records_end_it() {
 
 #[test]
 fn a_refused_plan_ends_it_before_any_event() {
-    assert_eq!(lines(&[7], &[255]), ["plan refused 2 0"]);
+    assert_eq!(lines(&[9], &[255]), ["plan refused 2 0"]);
 }
 
 /// A plain generator of bytes (xorshift).
@@ -84,7 +84,7 @@ fn random_bytes_never_panic() {
     let mut bytes = Bytes(0x5EC0_4D5E_C04D_5EC1);
     for _ in 0..20_000 {
         let plan: Vec<u8> = (0..bytes.below(40))
-            .map(|_| bytes.next() as u8 % 8)
+            .map(|_| bytes.next() as u8 % 10)
             .collect();
         let events: Vec<u8> = (0..bytes.below(60))
             .map(|_| bytes.next() as u8 % 24)
@@ -102,15 +102,20 @@ fn damaged_inputs_never_panic() {
         LIN_NODE.to_vec(),
         common::tx(0, 3, 2, 1, 2, 1, 3, [0; 8]),
         common::tx(1, 3, 2, 1, 2, 1, 3, [0; 8]),
+        common::tx_29(0, 3, 2, 1, 2, 1, 3, [0; 8]),
         common::rx(0, 4, 2, 1, 2, 1, 1, 15, 2),
         common::signal(1, 9),
         common::destination(0, 2),
+        common::rx_29(0, 4, 2, 1, 2, 1, 1, 15, 2),
+        common::signal(1, 9),
+        common::destination(2, 2),
         common::rx(1, 4, 2, 1, 2, 1, 1, 15, 2),
         common::signal(1, 9),
         common::destination(1, 2),
     ]);
     let events = join(&[
         reception(0, 4, &[0xA5, 0x5A]),
+        common::reception_29(0, 4, &[0xA5, 0x5A]),
         response(1, 4, &[0xA5, 0x5A]),
         TICK.to_vec(),
         take(0),
@@ -119,7 +124,7 @@ fn damaged_inputs_never_panic() {
         take(1),
     ]);
     let good = input(&plan, &events);
-    assert!(run(&good).starts_with("plan ok 2 2 2\nrx 0\nrx 0\n"));
+    assert!(run(&good).starts_with("plan ok 2 3 3\nrx 0\nrx 0\nrx 0\n"));
     let mut bytes = Bytes(0x0D0C_0001_0D0C_0001);
     for place in 0..good.len() {
         for value in 0..=255 {

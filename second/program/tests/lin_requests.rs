@@ -11,6 +11,7 @@ use common::{
     TICK,
 };
 use second::gateway::Gateway;
+use second::id::Id;
 use second::lin::enhanced_checksum;
 use second::taken::{OnLin, Taken, TakenFrame, TakenRequest};
 
@@ -239,7 +240,7 @@ fn a_take_on_lin_carries_protected_identifier_and_checksum() {
     let frame = |tx_frame, waiting, payload, on_lin| {
         Taken::Frame(TakenFrame {
             tx_frame,
-            id: 0x01,
+            id: Id::Bits11(0x01),
             size: 2,
             waiting,
             payload,

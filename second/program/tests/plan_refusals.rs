@@ -27,7 +27,7 @@ fn refusal_1_for_a_cut_record() {
 
 #[test]
 fn refusal_2_for_an_unknown_kind_even_at_the_end() {
-    for kind in [0, 7, 255] {
+    for kind in [0, 9, 10, 255] {
         assert_eq!(plan_line(&[kind]), "plan refused 2 0");
         assert_eq!(after_start(&[vec![kind]]), "plan refused 2 3");
     }

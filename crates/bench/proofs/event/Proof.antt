@@ -14,15 +14,15 @@ use Rattle.bench.proofs.event.Statement.{statement}
 use Rattle.bench.proofs.event.Tie as tie
 
 -- an event that is a call, once the call is done
-called : (input a : List ℕ) (at rx : ℕ) (v : Event) {a′ line line′ : List ℕ} {size : ℕ} {e : Event} → (e ≡ eventAt input at) × Within input at e → e ≡ v
-    → at < length input → LineIs (eventText v input at rx a) line line′ size × (a′ ≡ eventArea v input at rx a)
-    → eventNext v input at ≡ at + eventSize v → 0 < eventSize v
+called : (input a : List ℕ) (at rx : ℕ) (v : Event) {a′ line line′ : List ℕ} {size next : ℕ} {e : Event} → (e ≡ eventAt input at) × Within input at e
+    → e ≡ v → at < length input → LineIs (eventText v input at rx a) line line′ size × (a′ ≡ eventArea v input at rx a)
+    → next ≡ eventNext v input at → next ≡ at + eventSize v → 0 < eventSize v
     → LineIs (lineAt input at rx a) line line′ size × ((a′ ≡ areaAt input at rx a)
-    × ((at + eventSize v ≡ nextAt input at) × (at < at + eventSize v) × (at + eventSize v ≤ length input)))
-called input a at rx v read told h call next some =
+    × ((next ≡ nextAt input at) × (at < next) × (next ≤ length input)))
+called input a at rx v read told h call moved behind some =
     let fits = read .1 (omega arith) in
     let size = ap eventSize told in
-    rw (sym (read .0) ∙ told) (call .0, (call .1, (sym next, omega arith, omega arith)))
+    rw (sym (read .0) ∙ told) (call .0, (call .1, (moved, omega arith, omega arith)))
 
 received-requires : tie.Need-received-requires
 unfolding eventSize
@@ -39,10 +39,12 @@ responded-requires c κs =
 returns : tie.Need-returns
 unfolding eventText eventArea eventNext eventSize
 returns c =
-    let told = c .before .before .before .before .before .before .before .before in
+    let call = c .before .before .before .before .before in
+    let told = call .before .before .before .before in
     let args = told .before .before .before .before .before .before .args in
+    let size = c .behind .ensures .0 in
     called (args .input .now) (args .area .now) (args .at) (args .rx) _ (told .before .before .event-at .ensures) (told .node .given .1) (omega arith)
-    (c .before .before .before .before .received .ensures) refl (omega arith)
+    (call .received .ensures) (omega arith) (omega arith) (omega arith)
 
 returns-2 : tie.Need-returns-2
 unfolding eventText eventArea eventNext eventSize
@@ -50,7 +52,7 @@ returns-2 c =
     let told = c .before .before .before .before .before .before .before in
     let args = told .before .before .before .before .before .before .args in
     called (args .input .now) (args .area .now) (args .at) (args .rx) _ (told .before .before .event-at .ensures) (told .enum-told .given .1) (omega arith)
-    (c .before .before .before .before .ticked .ensures) refl (omega arith)
+    (c .before .before .before .before .ticked .ensures) refl refl (omega arith)
 
 returns-3 : tie.Need-returns-3
 unfolding eventText eventArea eventNext eventSize
@@ -58,7 +60,7 @@ returns-3 c =
     let told = c .before .before .before .before .before .before .before .before in
     let args = told .before .before .before .before .before .before .args in
     called (args .input .now) (args .area .now) (args .at) (args .rx) _ (told .before .before .event-at .ensures) (told .node2 .given .1) (omega arith)
-    (c .before .before .before .before .took .ensures) refl (omega arith)
+    (c .before .before .before .before .took .ensures) refl refl (omega arith)
 
 returns-4 : tie.Need-returns-4
 unfolding eventText eventArea eventNext eventSize
@@ -66,7 +68,7 @@ returns-4 c =
     let told = c .before .before .before .before .before .before .before .before in
     let args = told .before .before .before .before .before .before .args in
     called (args .input .now) (args .area .now) (args .at) (args .rx) _ (told .before .before .event-at .ensures) (told .node3 .given .1) (omega arith)
-    (c .before .before .before .before .responded .ensures) refl (omega arith)
+    (c .before .before .before .before .responded .ensures) refl refl (omega arith)
 
 returns-5 : tie.Need-returns-5
 unfolding eventText eventArea eventNext eventSize
@@ -74,7 +76,7 @@ returns-5 c =
     let told = c .before .before .before .before .before .before .before .before in
     let args = told .before .before .before .before .before .before .args in
     called (args .input .now) (args .area .now) (args .at) (args .rx) _ (told .before .before .event-at .ensures) (told .node4 .given .1) (omega arith)
-    (c .before .before .before .before .silent .ensures) refl (omega arith)
+    (c .before .before .before .before .silent .ensures) refl refl (omega arith)
 
 returns-6 : tie.Need-returns-6
 unfolding eventText eventArea eventNext
@@ -92,9 +94,9 @@ returns-7 c =
 pub event-spec : {M : Type 1} → statement M
 event-spec =
     tie.close
-    (tie.spec (λ c κs. search needs) (λ c. search needs) received-requires (λ c. search needs) (λ c. search needs) (λ c κs. search needs)
-    (λ c. search needs) (λ c. search needs) (λ c κs. search needs) (λ c. search needs) (λ c. search needs) responded-requires
-    (λ c. search needs) (λ c. search needs) (λ c κs. search needs) (λ c. search needs) (λ c. search needs) (λ c κs. search needs)
-    (λ c. search needs) (λ c. search needs) (λ c. search needs) returns (λ c. search needs) (λ c. search needs) returns-2
+    (tie.spec (λ c κs. search needs) (λ c. search needs) received-requires (λ c κs. search needs) (λ c. search needs) (λ c. search needs)
+    (λ c. search needs) (λ c κs. search needs) (λ c. search needs) (λ c. search needs) (λ c κs. search needs) (λ c. search needs)
+    (λ c. search needs) responded-requires (λ c. search needs) (λ c. search needs) (λ c κs. search needs) (λ c. search needs) (λ c. search needs)
+    (λ c κs. search needs) (λ c. search needs) (λ c. search needs) (λ c. search needs) returns (λ c. search needs) (λ c. search needs) returns-2
     (λ c. search needs) (λ c. search needs) returns-3 (λ c. search needs) (λ c. search needs) returns-4 (λ c. search needs)
     (λ c. search needs) returns-5 (λ c. search needs) returns-6 returns-7)

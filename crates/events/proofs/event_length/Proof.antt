@@ -28,9 +28,13 @@ unfolding eventLength pick
 returns-5 c = rw (c .if5 .taken) (refl, omega arith)
 
 returns-6 : tie.Need-returns-6
-returns-6 c = (no-length _ (λ e. omega arith) (λ e. omega arith) (λ e. omega arith) (λ e. omega arith) (λ e. omega arith), omega arith)
+unfolding eventLength pick
+returns-6 c = rw (c .if6 .taken) (refl, omega arith)
+
+returns-7 : tie.Need-returns-7
+returns-7 c = (no-length _ (λ e. omega arith) (λ e. omega arith) (λ e. omega arith) (λ e. omega arith) (λ e. omega arith) (λ e. omega arith), omega arith)
 
 pub event-length-spec : {M : Type 1} → statement M
 event-length-spec =
     tie.close
-    (tie.spec returns returns-2 returns-3 returns-4 returns-5 returns-6)
+    (tie.spec returns returns-2 returns-3 returns-4 returns-5 returns-6 returns-7)

@@ -11,7 +11,7 @@ use Rattle.events.proofs.payload_at.Tie as tie
 
 returns : tie.Need-returns
 returns c =
-    let args = c .before .before .before .before .before .before .before .before .before .args in
+    let args = c .before .before .before .before .before .before .before .before .before .before .args in
     let few = payload-few (now (args .input)) (args .at) in
     let put = rw (← (payload-long (now (args .input)) (args .at) (omega arith))) at (c .before .before .put-word .ensures) in
     (put, omega arith)
@@ -19,14 +19,14 @@ returns c =
 returns-2 : tie.Need-returns-2
 returns-2 c =
     let length = c .before .before .before .before .before .before in
-    let args = length .before .before .before .args in
+    let args = length .before .before .before .before .args in
     let few = payload-few (now (args .input)) (args .at) in
-    let size : args .at + 5 + length .length-at .result - (args .at + 5) ≡ byteAt (now (args .input)) (args .at + 4) = omega arith in
+    let size : args .at + 1 + length .wide .result - (args .at + 1) ≡ byteAt (now (args .input)) (args .at) = omega arith in
     let put = rw (size, ← (payload-short (now (args .input)) (args .at) (omega arith))) at (c .before .before .put-word2 .ensures) in
     (put, omega arith)
 
 pub payload-at-spec : {M : Type 1} → statement M
 payload-at-spec =
     tie.close
-    (tie.spec (λ c κs. search needs) (λ c. search needs) (λ c κs. search needs) (λ c. search needs) returns (λ c. search needs)
+    (tie.spec (λ c. search needs) (λ c κs. search needs) (λ c. search needs) (λ c κs. search needs) (λ c. search needs) returns (λ c. search needs)
     (λ c. search needs) (λ c. search needs) (λ c. search needs) (λ c. search needs) (λ c κs. search needs) (λ c. search needs) returns-2)

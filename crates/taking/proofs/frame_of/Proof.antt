@@ -8,8 +8,7 @@ returns : tie.Need-returns
 unfolding entryAnswer
 returns c =
     let c2 = c .before .before in
-    rw (c .framing-of .ensures, c .before .in-width .ensures .0, c2 .tx-size .ensures, c2 .before .tx-id .ensures)
+    rw (c .tx-id .ensures, c .before .framing-of .ensures, c2 .in-width .ensures .0, c2 .before .tx-size .ensures)
 
 pub frame-of-spec : {M : Type 1} → statement M
-frame-of-spec =
-    tie.close (tie.spec (λ c κs. search needs) (λ c κs. search needs) (λ c κs. search needs) (λ c κs. search needs) returns)
+frame-of-spec = tie.close (tie.spec (λ c κs. search needs) (λ c κs. search needs) (λ c κs. search needs) (λ c κs. search needs) returns)

@@ -22,13 +22,13 @@ returns-2 : tie.Need-returns-2
 unfolding framingOf isLin pick
 returns-2 c =
     let c2 = c .before .before in
-    let c5 = c2 .before .before .before in
-    let v = c5 .before .before .args in
-    let lin : typeOn (now (v .area)) (v .n) ≡ Lin = sym (c5 .node-type .ensures) ∙ c2 .before .enum-told2 .given .1 in
-    rw (lin, c .checksum .ensures, c .before .part .ensures, c2 .protected .ensures)
+    let c3 = c2 .before in
+    let c4 = c3 .before in
+    let c5 = c4 .before in
+    let c7 = c5 .before .before in
+    let v = c7 .before .before .args in
+    let lin : typeOn (now (v .area)) (v .n) ≡ Lin = sym (c7 .node-type .ensures) ∙ c5 .enum-told2 .given .1 in
+    rw (lin, c .checksum .ensures, c .before .part .ensures, c2 .protected .ensures, c3 .plain .ensures, c4 .tx-id .ensures)
 
 pub framing-of-spec : {M : Type 1} → statement M
-framing-of-spec =
-    tie.close
-    (tie.spec (λ c κs. search needs) (λ c. search needs) (λ c. search needs) (λ c κs. search needs) (λ c κs. search needs) (λ c κs. search needs)
-    returns returns-2)
+framing-of-spec = tie.close (tie.spec (λ c κs. search needs) (λ c. search needs) (λ c. search needs) (λ c κs. search needs) (λ c κs. search needs) (λ c κs. search needs) (λ c κs. search needs) (λ c κs. search needs) returns returns-2)

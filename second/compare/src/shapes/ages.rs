@@ -170,6 +170,7 @@ fn plan(rng: &mut Rng, order: u8, sources: &[Source]) -> Option<Plan> {
             ..Rx::quiet(node, id, size as u8)
         });
     }
+    good::widen_some(rng, &mut plan);
     Some(plan)
 }
 

@@ -69,6 +69,7 @@ fn copies_plan(rng: &mut Rng, order: u8, sizes: [u8; 4]) -> Plan {
             ..Rx::quiet(0, id, bits.div_ceil(8))
         });
     }
+    good::widen_some(rng, &mut plan);
     plan
 }
 

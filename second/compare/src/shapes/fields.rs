@@ -4,7 +4,8 @@ use super::Shape;
 use crate::events::ordinary;
 use crate::good;
 use crate::rng::Rng;
-use crate::spec::{self, places_of, Record, DESTINATION, HEAD, NODE, RX, SIGNAL, TX};
+use crate::spec::{self, places_of, places_of_frames, size_place, Record};
+use crate::spec::{DESTINATION, HEAD, NODE, RX, RX_29, SIGNAL, TX};
 
 /// A field of one byte: its name, kind, place in the record, and values just
 /// outside its range or at the far end.
@@ -61,7 +62,7 @@ pub fn shapes() -> Vec<Shape> {
         records[record][9 + past] = rng.pick(&[1, 0x80, 0xFF]);
     }));
     shapes.push(damaged("field: Tx frame one too high", |rng, records| {
-        let tx = places_of(records, TX).len() as u16;
+        let tx = places_of_frames(records).len() as u16;
         let record = any_of(rng, records, DESTINATION);
         records[record][1..3].copy_from_slice(&tx.to_be_bytes());
     }));
@@ -69,8 +70,8 @@ pub fn shapes() -> Vec<Shape> {
         "field: signal one bit past the data",
         |rng, records| {
             let record = any_of(rng, records, SIGNAL);
-            let row = last_before(records, record, RX);
-            let bits = 8 * records[row][4];
+            let row = row_before(records, record);
+            let bits = 8 * records[row][size_place(&records[row])];
             let size = records[record][2];
             records[record][1] = (bits + 1).saturating_sub(size).min(63);
         },
@@ -82,8 +83,8 @@ pub fn shapes() -> Vec<Shape> {
             let signal = last_before(records, record, SIGNAL);
             let size = records[signal][2];
             let number = usize::from(records[record][2]);
-            let tx = places_of(records, TX)[number];
-            let bits = 8 * records[tx][4];
+            let tx = places_of_frames(records)[number];
+            let bits = 8 * records[tx][size_place(&records[tx])];
             records[record][3] = (bits + 1).saturating_sub(size).min(63);
         },
     ));
@@ -119,9 +120,28 @@ pub fn damaged(
     })
 }
 
-/// A record of the kind. A rich plan has records of every kind.
+/// The same of a rich plan that surely has both formats.
+pub fn damaged_of_both(
+    name: &str,
+    damage: impl Fn(&mut Rng, &mut Vec<Record>) + Send + Sync + 'static,
+) -> Shape {
+    Shape::new(name, move |rng| {
+        let plan = good::rich_plan_of_both(rng);
+        let mut records = plan.records();
+        damage(rng, &mut records);
+        spec::input(&records, &ordinary(rng, &plan, 15))
+    })
+}
+
+/// A record of the kind. A rich plan has records of every kind but, for most of
+/// them, those of 29 bits.
 pub fn any_of(rng: &mut Rng, records: &[Record], kind: u8) -> usize {
     rng.pick(&places_of(records, kind))
+}
+
+/// The row that a signal is of.
+fn row_before(records: &[Record], place: usize) -> usize {
+    last_before(records, place, RX).max(last_before(records, place, RX_29))
 }
 
 /// The nearest record of the kind before this one.

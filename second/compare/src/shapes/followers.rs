@@ -4,7 +4,7 @@ use super::Shape;
 use crate::events::ordinary;
 use crate::good;
 use crate::rng::Rng;
-use crate::spec::{self, places_of, Record, DESTINATION, RX, SIGNAL};
+use crate::spec::{self, places_of_rows, Record, DESTINATION, SIGNAL};
 
 /// What comes in place of the follower.
 #[derive(Clone, Copy, Debug)]
@@ -57,7 +57,7 @@ fn make(rng: &mut Rng, follower: u8, instead: Instead) -> Vec<u8> {
     let plan = good::rich_plan(rng);
     let records = plan.records();
     let row = rng.pick(&good::watched_rows(&plan));
-    let row_place = places_of(&records, RX)[row];
+    let row_place = places_of_rows(&records)[row];
     let place = match follower {
         SIGNAL => row_place + 1,
         _ => row_place + 2,
@@ -86,7 +86,7 @@ fn replacement(
         (Instead::NextRow, _) => last_row,
         (Instead::UnknownKind, _) => {
             let count = rng.below(4);
-            let mut record = vec![rng.pick(&[0, 7, 8, 16, 255])];
+            let mut record = vec![rng.pick(&[0, 9, 10, 16, 255])];
             record.extend(rng.bytes(count));
             record
         }

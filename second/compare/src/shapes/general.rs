@@ -203,6 +203,7 @@ fn whole_payloads(rng: &mut Rng) -> Vec<u8> {
         }
         plan.rx.push(rx);
     }
+    good::widen_some(rng, &mut plan);
     let mix = Mix {
         hits: 6,
         misses: 0,

@@ -8,8 +8,9 @@ use crate::rng::Rng;
 use crate::spec::{self, input_with_length, Plan};
 
 /// Events with a body: name, kind and length.
-const EVENTS: [(&str, u8, usize); 3] = [
+const EVENTS: [(&str, u8, usize); 4] = [
     ("reception", 16, 13),
+    ("29-bit reception", 19, 15),
     ("response", 20, 14),
     ("no response", 21, 4),
 ];
@@ -80,27 +81,27 @@ pub fn shapes() -> Vec<Shape> {
         }),
         Shape::new("input: unknown event", |rng| {
             with_tail(rng, |rng| {
-                let mut tail = vec![rng.pick(&[0, 1, 6, 15, 19, 22, 128, 255])];
+                let mut tail = vec![rng.pick(&[0, 1, 6, 15, 22, 128, 255])];
                 tail.extend([17, 17]);
                 tail
             })
         }),
         Shape::new("input: unknown event first", |rng| {
             let plan = good::small_plan(rng);
-            plan.input(&[rng.pick(&[0, 15, 19, 22, 255]), 17, 17])
+            plan.input(&[rng.pick(&[0, 15, 22, 255]), 17, 17])
         }),
         Shape::new("input: an event byte changed", |rng| {
             let plan = good::rich_plan(rng);
             let mut events = ordinary(rng, &plan, 30);
             let place = rng.below(events.len());
             let any = rng.byte();
-            events[place] = rng.pick(&[0, 16, 17, 18, 19, 20, 21, any]);
+            events[place] = rng.pick(&[0, 16, 17, 18, 19, 20, 21, 22, any]);
             plan.input(&events)
         }),
         Shape::new("input: random events", |rng| {
             let plan = good::rich_plan(rng);
             let count = rng.below(60);
-            let kinds = [16, 17, 18, 20, 21];
+            let kinds = [16, 17, 18, 19, 20, 21];
             let events: Vec<u8> = (0..count).map(|_| rng.pick(&kinds)).collect();
             plan.input(&events)
         }),
@@ -112,7 +113,7 @@ pub fn shapes() -> Vec<Shape> {
         }),
         Shape::new("input: random small bytes", |rng| {
             let count = rng.below(40);
-            let plan: Vec<u8> = (0..count).map(|_| rng.below(8) as u8).collect();
+            let plan: Vec<u8> = (0..count).map(|_| rng.below(10) as u8).collect();
             input_with_length(plan.len(), &plan, &[17])
         }),
         Shape::new("input: 65536 bytes, the last event cut", |rng| {

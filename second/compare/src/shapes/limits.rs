@@ -3,6 +3,7 @@
 use super::Shape;
 use crate::events::ordinary;
 use crate::good;
+use crate::ids;
 use crate::rng::Rng;
 use crate::spec::{Destination, Plan, Rx, Signal, Tx};
 
@@ -31,7 +32,8 @@ pub fn shapes() -> Vec<Shape> {
         for count in [limit - 1, limit, limit + 1] {
             shapes.push(Shape::new(&format!("limit: {count} {what}"), move |rng| {
                 let counts = make(rng, count);
-                let plan = layout(rng, &counts);
+                let mut plan = layout(rng, &counts);
+                good::widen_some(rng, &mut plan);
                 plan.input(&ordinary(rng, &plan, 30))
             }));
         }
@@ -42,7 +44,8 @@ pub fn shapes() -> Vec<Shape> {
             tx: 256,
             rows: vec![vec![2; 4]; 256],
         };
-        let plan = layout(rng, &counts);
+        let mut plan = layout(rng, &counts);
+        good::widen_some(rng, &mut plan);
         plan.input(&ordinary(rng, &plan, 40))
     }));
     shapes
@@ -132,7 +135,7 @@ pub fn layout(rng: &mut Rng, counts: &Counts) -> Plan {
     for _ in 0..counts.tx {
         plan.tx.push(Tx {
             node: rng.below(counts.nodes.min(16)) as u8,
-            id: rng.below(2048) as u16,
+            id: ids::some_id(rng),
             size: 8,
             prescaler: good::prescaler(rng),
             reload: good::timer_value(rng),

@@ -1,7 +1,7 @@
 //! The calls on LIN nodes: every answer, every refusal and two of them at once,
 //! and checksums of all kinds.
 
-use second::lin::{folded_sum, protected_identifier};
+use second::lin::{folded_sum, plain, protected_identifier};
 
 use super::Shape;
 use crate::checksums::{Response, OTHER_CHECKSUMS};
@@ -135,7 +135,7 @@ fn refusals(rng: &mut Rng) -> Vec<u8> {
 /// Nodes, IDs and lengths: with a row and without, too long, too short and just
 /// right.
 fn refused_calls(rng: &mut Rng, plan: &Plan) -> Vec<(u8, u16, u8)> {
-    let id = plan.rx[1].id;
+    let id = plain(plan.rx[1].id);
     let no_row = rng.from_to(41, 59) as u16;
     let ids = [
         id,
@@ -145,8 +145,8 @@ fn refused_calls(rng: &mut Rng, plan: &Plan) -> Vec<(u8, u16, u8)> {
         id + 64,
         id + 256,
         id + 2048,
-        plan.rx[2].id + 64,
-        u16::from(protected_identifier(plan.rx[2].id)),
+        plain(plan.rx[2].id) + 64,
+        u16::from(protected_identifier(plain(plan.rx[2].id))),
         u16::MAX,
     ];
     let mut calls = Vec::new();
@@ -201,7 +201,7 @@ fn other_checksums(rng: &mut Rng) -> Vec<u8> {
             let length = rng.from_to(usize::from(rx.size), 8);
             let data = rng.payload();
             let response = Response {
-                id: rx.id,
+                id: plain(rx.id),
                 size: rx.size.into(),
                 bytes: &data[..length],
                 data: &data,
@@ -267,7 +267,7 @@ fn every_id(rng: &mut Rng) -> Vec<u8> {
     rng.shuffle(&mut rows);
     let mut events = Events::new(&plan);
     for row in rows {
-        let id = plan.rx[row].id;
+        let id = plain(plan.rx[row].id);
         let data = rng.payload();
         let protected = protected_identifier(id);
         // Protected identifiers with another parity bit.
@@ -278,8 +278,8 @@ fn every_id(rng: &mut Rng) -> Vec<u8> {
         }
         events.accepted(rng, row);
         let right = right_checksum(id, 8, &data);
-        events.response(1, protected.into(), 8, data, right);
-        events.no_response(1, protected.into());
+        events.response(1, u16::from(protected), 8, data, right);
+        events.no_response(1, u16::from(protected));
         events.response(2, id, 8, data, right);
         events.no_response(2, id);
         if rng.once_in(8) {

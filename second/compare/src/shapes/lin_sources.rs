@@ -1,6 +1,8 @@
 //! LIN rows as sources: their long counters, which "no response" moves, and
 //! fixes of any age, of which Ticket 8 says nothing.
 
+use second::lin::plain;
+
 use super::Shape;
 use crate::events::{right_checksum, Events, EVEN};
 use crate::good;
@@ -160,7 +162,7 @@ fn add_other(rng: &mut Rng, events: &mut Events, plan: &Plan, row: usize, other:
         }
         Other::OldReception => events.reception(rx.node, rx.id, rx.size, data),
         Other::NotThere => {
-            let (node, id) = rng.pick(&[(0, rx.id), (1, 59), (1, rx.id + 64)]);
+            let (node, id) = rng.pick(&[(0, plain(rx.id)), (1, 59), (1, plain(rx.id) + 64)]);
             events.no_response(node, id);
         }
     }

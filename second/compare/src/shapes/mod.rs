@@ -9,6 +9,11 @@ mod ages;
 mod copies;
 mod fields;
 mod followers;
+mod format_calls;
+mod format_faults;
+mod format_places;
+mod format_plans;
+mod format_sources;
 mod general;
 mod inputs;
 mod limits;
@@ -81,6 +86,11 @@ impl Shapes {
         special.extend(lin_requests::shapes());
         special.extend(lin_sources::shapes());
         special.extend(lin_plans::shapes());
+        special.extend(format_plans::shapes());
+        special.extend(format_faults::shapes());
+        special.extend(format_calls::shapes());
+        special.extend(format_places::shapes());
+        special.extend(format_sources::shapes());
         special.extend(queues::shapes());
         special.extend(turns::shapes());
 

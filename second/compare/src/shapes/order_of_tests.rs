@@ -14,17 +14,17 @@ type Tail = fn(&mut Rng) -> Vec<Record>;
 /// Tails that end in a cut record or a kind byte alone.
 const CUT_TAILS: [(&str, Tail); 10] = [
     ("9 before 2, no body", |rng| {
-        vec![watched(), vec![rng.pick(&[0, 7, 255])]]
+        vec![watched(), vec![rng.pick(&[0, 9, 255])]]
     }),
     ("9 before 1", |rng| vec![watched(), cut(rng, row(6))]),
     ("9 before 1, no body", |rng| {
-        vec![watched(), vec![rng.pick(&[1, 2, 3, 4, 6])]]
+        vec![watched(), vec![rng.pick(&[1, 2, 3, 4, 6, 7, 8])]]
     }),
     ("a cut signal before its missing destination", |rng| {
         vec![watched(), cut(rng, spec::signal_record(0, 1))]
     }),
     ("2 before 1", |rng| {
-        vec![row(5), vec![rng.pick(&[0, 7, 16, 255])]]
+        vec![row(5), vec![rng.pick(&[0, 9, 16, 255])]]
     }),
     ("1 before 3, a Tx frame", |rng| {
         vec![row(5), cut(rng, Tx::quiet(0, 1, 1).record())]
@@ -44,7 +44,7 @@ const CUT_TAILS: [(&str, Tail); 10] = [
 /// Tails of whole records, which more records may follow.
 const WHOLE_TAILS: [(&str, Tail); 17] = [
     ("9 before 2", |rng| {
-        vec![watched(), vec![rng.pick(&[0, 7, 255]); 11]]
+        vec![watched(), vec![rng.pick(&[0, 9, 255]); 11]]
     }),
     ("9 before 3", |_| {
         vec![watched(), spec::destination_record(0, 0)]

@@ -2,9 +2,12 @@
 
 use std::collections::BTreeSet;
 
+use second::id::Id;
+
 use super::Shape;
 use crate::events::{Events, EVEN};
 use crate::good::{self, Keys, Measure};
+use crate::ids;
 use crate::rng::Rng;
 use crate::spec::Plan;
 
@@ -48,7 +51,7 @@ fn nodes_of_0_to_15_rows(rng: &mut Rng) -> Keys {
 
 /// Each node has some of the same 16 IDs, at least two.
 fn nodes_of_like_ids(rng: &mut Rng) -> Keys {
-    let mut ids: Vec<u16> = with_gaps(rng, 16).collect();
+    let mut ids: Vec<Id> = with_gaps(rng, 16).collect();
     let mut keys = Keys::new();
     for node in 0..16 {
         rng.shuffle(&mut ids);
@@ -67,14 +70,14 @@ fn without_a_gap(rng: &mut Rng) -> Keys {
         let last = 2048 - count;
         let any = rng.below(last);
         let first = rng.pick(&[0, last, any]);
-        keys.extend((first..first + count).map(|id| (node, id as u16)));
+        keys.extend((first..first + count).map(|id| (node, Id::Bits11(id as u16))));
     }
     keys
 }
 
 /// So many IDs, rising, with others below, between and above them: each second
 /// one, or near each other, or anywhere.
-fn with_gaps(rng: &mut Rng, count: usize) -> impl Iterator<Item = u16> {
+fn with_gaps(rng: &mut Rng, count: usize) -> impl Iterator<Item = Id> {
     // One ID below each is kept free, and is not counted in the width.
     let most = 2047 - count;
     let width = rng.pick(&[count, 2 * count, most]);
@@ -84,7 +87,7 @@ fn with_gaps(rng: &mut Rng, count: usize) -> impl Iterator<Item = u16> {
     steps.truncate(count);
     steps.sort();
     let ids = (first..).zip(steps).map(|(from, step)| from + step);
-    ids.map(|id| id as u16)
+    ids.map(|id| Id::Bits11(id as u16))
 }
 
 /// Every node gets IDs of each run that none of its rows has; other events
@@ -111,14 +114,14 @@ fn places(rng: &mut Rng, nodes: usize, keys: Keys) -> Vec<u8> {
 }
 
 /// Some IDs of each run, each once, in any order.
-fn strangers(rng: &mut Rng, plan: &Plan) -> Vec<(u8, u16)> {
+fn strangers(rng: &mut Rng, plan: &Plan) -> Vec<(u8, Id)> {
     let mut strangers = BTreeSet::new();
     for node in 0..plan.nodes as u8 {
-        for run in good::unlisted(plan, node) {
-            strangers.extend(good::some_of(rng, run).map(|id| (node, id)));
+        for run in ids::unlisted(plan, node) {
+            strangers.extend(ids::some_of(rng, run).map(|id| (node, id)));
         }
     }
-    let mut strangers: Vec<(u8, u16)> = strangers.into_iter().collect();
+    let mut strangers: Vec<(u8, Id)> = strangers.into_iter().collect();
     rng.shuffle(&mut strangers);
     strangers
 }

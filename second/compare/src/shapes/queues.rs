@@ -73,6 +73,7 @@ pub fn plan_of(rng: &mut Rng, nodes: &[(usize, usize)], lin: usize) -> Plan {
         plan.rx.extend(asking(rng, node, *requests));
     }
     rng.shuffle(&mut plan.tx);
+    good::widen_some(rng, &mut plan);
     plan
 }
 

@@ -1,6 +1,8 @@
 //! Damage to the bytes and records of a rich plan.
 
-use super::fields::{any_of, damaged};
+use second::id::{Id, GREATEST_29};
+
+use super::fields::{any_of, damaged, damaged_of_both};
 use super::Shape;
 use crate::rng::Rng;
 use crate::spec::{self, places_of, Record, RX};
@@ -47,23 +49,23 @@ pub fn shapes() -> Vec<Shape> {
             let place = rng.below(records.len());
             let byte = rng.from_to(0, records[place].len());
             let any = rng.byte();
-            let value = rng.pick(&[0, 1, 2, 3, 4, 5, 6, 7, any]);
+            let value = rng.pick(&[0, 1, 2, 3, 4, 5, 6, 7, 8, 9, any]);
             records[place].insert(byte, value);
         }),
         damaged("records: an unknown kind inserted", |rng, records| {
             let place = rng.from_to(0, records.len());
-            let kind = rng.pick(&[0, 7, 8, 16, 17, 255]);
+            let kind = rng.pick(&[0, 9, 10, 16, 17, 255]);
             records.insert(place, vec![kind]);
         }),
         damaged("records: bytes after the end", |rng, records| {
             let count = rng.from_to(1, 12);
             let mut more = rng.bytes(count);
-            more[0] = rng.below(9) as u8;
+            more[0] = rng.below(11) as u8;
             records.push(more);
         }),
         damaged("records: a kind changed", |rng, records| {
             let place = rng.below(records.len());
-            records[place][0] = rng.below(8) as u8;
+            records[place][0] = rng.below(10) as u8;
         }),
         damaged("records: kinds exchanged", |rng, records| {
             let one = rng.below(records.len());
@@ -101,22 +103,22 @@ pub fn shapes() -> Vec<Shape> {
             }
         }),
     ];
-    for kind in 1..=6 {
+    for kind in 1..=8 {
         let name = format!("records: kind {kind} cut");
-        shapes.push(damaged(&name, move |rng, records| {
+        shapes.push(damaged_of(&name, [kind], move |rng, records| {
             let place = any_of(rng, records, kind);
             records.truncate(place + 1);
             let length = rng.from_to(1, records[place].len() - 1);
             records[place].truncate(length);
         }));
         let name = format!("records: kind {kind} first");
-        shapes.push(damaged(&name, move |rng, records| {
+        shapes.push(damaged_of(&name, [kind], move |rng, records| {
             let record = plausible(rng, kind);
             records.insert(0, record);
         }));
-        for before in 1..=6 {
+        for before in 1..=8 {
             let name = format!("records: kind {kind} after kind {before}");
-            shapes.push(damaged(&name, move |rng, records| {
+            shapes.push(damaged_of(&name, [kind, before], move |rng, records| {
                 let place = any_of(rng, records, before);
                 let record = plausible(rng, kind);
                 records.insert(place + 1, record);
@@ -124,6 +126,18 @@ pub fn shapes() -> Vec<Shape> {
         }
     }
     shapes
+}
+
+/// A shape that damages the records of a plan which has records of these kinds.
+fn damaged_of<const N: usize>(
+    name: &str,
+    kinds: [u8; N],
+    damage: impl Fn(&mut Rng, &mut Vec<Record>) + Send + Sync + 'static,
+) -> Shape {
+    match kinds.iter().any(|kind| *kind > spec::DESTINATION) {
+        true => damaged_of_both(name, damage),
+        false => damaged(name, damage),
+    }
 }
 
 pub fn one_byte(rng: &mut Rng, records: &mut [Record]) {
@@ -160,6 +174,10 @@ fn two_rows(rng: &mut Rng, records: &[Record]) -> (usize, usize) {
     (rows[number - 1], rows[number])
 }
 
+fn wide(rng: &mut Rng) -> Id {
+    Id::Bits29(rng.below(GREATEST_29 as usize + 1) as u32)
+}
+
 /// A record whose fields are mostly in range.
 fn plausible(rng: &mut Rng, kind: u8) -> Record {
     let id = rng.below(2048) as u16;
@@ -173,6 +191,12 @@ fn plausible(rng: &mut Rng, kind: u8) -> Record {
             rx.record()
         }
         spec::SIGNAL => spec::signal_record(rng.below(16) as u8, rng.from_to(1, 8) as u8),
+        spec::TX_29 => spec::Tx::quiet(0, wide(rng), rng.below(9) as u8).record(),
+        spec::RX_29 => {
+            let mut rx = spec::Rx::quiet(rng.below(2) as u8, wide(rng), rng.below(9) as u8);
+            rx.enable = rng.below(2) as u8;
+            rx.record()
+        }
         _ => spec::destination_record(rng.below(3) as u16, rng.below(64) as u8),
     }
 }

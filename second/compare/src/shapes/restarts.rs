@@ -1,9 +1,12 @@
 //! Receptions between the expiries of a long count: the long counter of a row
 //! starts again at those that the row accepts, and at no others.
 
+use second::id::Id;
+
 use super::Shape;
 use crate::events::{Events, Mix};
 use crate::good::{self, Measure};
+use crate::ids;
 use crate::rng::Rng;
 use crate::spec::{Plan, Rx};
 
@@ -118,10 +121,12 @@ pub fn add_other(rng: &mut Rng, events: &mut Events, plan: &Plan, row: usize, ot
 }
 
 /// A node and an ID near those of the row that no row has.
-fn stranger(rng: &mut Rng, plan: &Plan, rx: &Rx) -> (u8, u16) {
-    let mut near = vec![(rx.node, rx.id + 2048)];
+fn stranger(rng: &mut Rng, plan: &Plan, rx: &Rx) -> (u8, Id) {
+    let id = rx.id;
+    let mut near = vec![(rx.node, ids::past_the_range(rng, id))];
+    near.push((rx.node, ids::strange_id(rng, id)));
     for node in 0..plan.nodes as u8 {
-        near.extend([rx.id, rx.id + 1, rx.id.wrapping_sub(1)].map(|id| (node, id)));
+        near.extend([0, 1, -1].map(|more| (node, ids::next_id(id, more))));
     }
     near.retain(|key| plan.rx.iter().all(|row| (row.node, row.id) != *key));
     rng.pick(&near)

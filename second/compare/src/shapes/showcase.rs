@@ -72,7 +72,7 @@ fn showcase_plan(rng: &mut Rng, order: u8) -> Plan {
 
 fn showcase(rng: &mut Rng, order: u8) -> Vec<u8> {
     let plan = showcase_plan(rng, order);
-    let id = plan.rx[0].id;
+    let id = plan.rx[0].id.number() as u16;
     let mut events = Events::new(&plan);
     let value = rng.from_to(1, 255) as u8;
     let data = [value, 1, 2, 3, 4, 5, 6, 7];

@@ -3,6 +3,7 @@
 use super::queues::plan_of;
 use super::Shape;
 use crate::events::{right_checksum, Events};
+use crate::ids;
 use crate::rng::Rng;
 use crate::spec::{Destination, Plan, Signal};
 
@@ -110,7 +111,12 @@ fn add(rng: &mut Rng, events: &mut Events, plan: &Plan, other: usize) {
     match other {
         0 => events.ticks(1),
         1 => events.reception(SOURCE, source.id, source.size, data),
-        2 => events.reception(SOURCE, source.id + 2048, source.size, data),
+        2 => events.reception(
+            SOURCE,
+            ids::past_the_range(rng, source.id),
+            source.size,
+            data,
+        ),
         3 => events.reception(SOURCE, source.id, source.size - 1, data),
         4 => events.reception(SOURCE, source.id, 9, data),
         5 => events.reception(NO_ROOM, source.id, 9, data),

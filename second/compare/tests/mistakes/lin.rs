@@ -28,7 +28,7 @@ const IS_CAN: &str =
     "        require(self.is_of_type(node, NodeType::Can), Refusal::NotOfThisNode)?;\n";
 
 /// Where it looks for the row of a LIN call.
-const FIND: &str = "self.find_row(node, id).ok_or(Refusal::NotOfThisNode)";
+const FIND: &str = "self.find_row(node, Id::Bits11(id))";
 
 /// Where it accepts, for CAN and LIN rows alike.
 const ACCEPT: &str = "        let row = self.plan.rx_frames[rx_number].clone();\n";
@@ -39,7 +39,7 @@ const CHECKSUM: &str = "        if checksum != enhanced_checksum(id, payload) {
         }\n";
 
 /// Where it has the ranges of LIN.
-const RANGES: &str = "Some(NodeType::Lin) => (lin::GREATEST_ID, lin::LEAST_SIZE),";
+const RANGES: &str = "(Id::Bits11(lin::GREATEST_ID), lin::LEAST_SIZE)";
 
 /// The Tx timers of a tick.
 const TX_TIMERS: &str = "        for tx_number in 0..self.plan.tx_frames.len() {
@@ -570,7 +570,7 @@ pub const LIN: &[Mistake] = &[
         &[(
             "responses.rs",
             FIND,
-            "self.find_row(node, id & 0x3F).ok_or(Refusal::NotOfThisNode)",
+            "self.find_row(node, Id::Bits11(id & 0x3F))",
         )],
     ),
     mistake(
@@ -578,10 +578,11 @@ pub const LIN: &[Mistake] = &[
         &[(
             "responses.rs",
             FIND,
-            "let plain = (60..256).contains(&id)
-                 && crate::lin::protected_identifier(id) == id as u8;
-             let id = if plain { id & 0x3F } else { id };
-             self.find_row(node, id).ok_or(Refusal::NotOfThisNode)",
+            "{
+                 let plain = (60..256).contains(&id)
+                     && crate::lin::protected_identifier(id) == id as u8;
+                 self.find_row(node, Id::Bits11(if plain { id & 0x3F } else { id }))
+             }",
         )],
     ),
     mistake(
@@ -589,7 +590,7 @@ pub const LIN: &[Mistake] = &[
         &[(
             "responses.rs",
             FIND,
-            "(0..16).find_map(|any| self.find_row(any, id)).ok_or(Refusal::NotOfThisNode)",
+            "(0..16).find_map(|any| self.find_row(any, Id::Bits11(id)))",
         )],
     ),
     // The plan.
@@ -652,27 +653,27 @@ pub const LIN: &[Mistake] = &[
     ),
     mistake(
         "ID 60 taken on LIN",
-        &[("parse.rs", RANGES, "Some(NodeType::Lin) => (60, lin::LEAST_SIZE),")],
+        &[("parse.rs", RANGES, "(Id::Bits11(60), lin::LEAST_SIZE)")],
     ),
     mistake(
         "IDs to 63 taken on LIN",
-        &[("parse.rs", RANGES, "Some(NodeType::Lin) => (63, lin::LEAST_SIZE),")],
+        &[("parse.rs", RANGES, "(Id::Bits11(63), lin::LEAST_SIZE)")],
     ),
     mistake(
         "ID 59 not taken on LIN",
-        &[("parse.rs", RANGES, "Some(NodeType::Lin) => (58, lin::LEAST_SIZE),")],
+        &[("parse.rs", RANGES, "(Id::Bits11(58), lin::LEAST_SIZE)")],
     ),
     mistake(
         "IDs of CAN taken on LIN",
-        &[("parse.rs", RANGES, "Some(NodeType::Lin) => (2047, lin::LEAST_SIZE),")],
+        &[("parse.rs", RANGES, "(Id::Bits11(2047), lin::LEAST_SIZE)")],
     ),
     mistake(
         "size 0 taken on LIN",
-        &[("parse.rs", RANGES, "Some(NodeType::Lin) => (lin::GREATEST_ID, 0),")],
+        &[("parse.rs", RANGES, "(Id::Bits11(lin::GREATEST_ID), 0)")],
     ),
     mistake(
         "size 1 not taken on LIN",
-        &[("parse.rs", RANGES, "Some(NodeType::Lin) => (lin::GREATEST_ID, 2),")],
+        &[("parse.rs", RANGES, "(Id::Bits11(lin::GREATEST_ID), 2)")],
     ),
     mistake(
         "size 0 of an Rx frame taken on LIN",
@@ -728,7 +729,7 @@ pub const LIN: &[Mistake] = &[
             "bench.rs",
             "        taken.tx_frame, taken.id, taken.size, taken.waiting",
             "        taken.tx_frame,
-             taken.on_lin.map_or(taken.id, |lin| lin.protected_identifier.into()),
+             taken.on_lin.map_or(taken.id, |lin| Id::Bits11(lin.protected_identifier.into())),
              taken.size,
              taken.waiting",
         )],

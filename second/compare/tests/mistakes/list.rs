@@ -52,7 +52,21 @@ pub const fn of_the_queue(name: &'static str, changes: Changes) -> Mistake {
 }
 
 /// How the second program counts a place.
-const PLACE: &str = "rows.filter(|row| row.node == node && row.id < id).count()";
+pub const PLACE: &str = "rows.filter(|row| row.node == node && row.id < id).count()";
+
+/// Gives the copy a function that cuts an ID to the bits of a mask, one for each
+/// format.
+pub const CUT: (&str, &str, &str) = (
+    "gateway.rs",
+    "pub struct Gateway {\n",
+    "fn cut(id: Id, of_11: u16, of_29: u32) -> Id {
+         match id {
+             Id::Bits11(number) => Id::Bits11(number & of_11),
+             Id::Bits29(number) => Id::Bits29(number & of_29),
+         }
+     }
+     pub struct Gateway {\n",
+);
 
 pub const MISTAKES: &[Mistake] = &[
     // The errors that look right, in document 01's order.
@@ -320,7 +334,14 @@ pub const MISTAKES: &[Mistake] = &[
     ),
     mistake(
         "IDs cut to 11 bits",
-        &[("gateway.rs", "row.id == id)", "row.id == id & 0x7FF)")],
+        &[
+            CUT,
+            (
+                "gateway.rs",
+                "row.id == id)",
+                "row.id == cut(id, 0x7FF, u32::MAX))",
+            ),
+        ],
     ),
     mistake(
         "13 before 12",
@@ -666,7 +687,8 @@ pub const MISTAKES: &[Mistake] = &[
             "bench.rs",
             "match gateway.receive(node, id, &handed_on(length, &data)) {\n",
             "match gateway.receive(node, id, &handed_on(length, &data)) {
-             Ok(Answer::NoMatchingRow { .. }) if id > 2047 => \"rx 1\".to_string(),\n",
+             Ok(Answer::NoMatchingRow { .. })
+                 if !id.is_29_bits() && !id.is_in_range() => \"rx 1\".to_string(),\n",
         )],
     ),
     mistake(
@@ -715,7 +737,10 @@ pub const MISTAKES: &[Mistake] = &[
         &[(
             "gateway.rs",
             PLACE,
-            "rows.filter(|row| row.node == node && row.id + 1 < id).count()",
+            "let is_next = |row: Id| {
+                 (row.is_29_bits(), row.number() + 1) == (id.is_29_bits(), id.number())
+             };
+             rows.filter(|row| row.node == node && row.id < id && !is_next(row.id)).count()",
         )],
     ),
     mistake(
@@ -807,7 +832,7 @@ pub const MISTAKES: &[Mistake] = &[
             (
                 "gateway.rs",
                 "    tick_number: u64,\n}\n",
-                "    tick_number: u64,\n    strangers: Vec<(u8, u16)>,\n}\n",
+                "    tick_number: u64,\n    strangers: Vec<(u8, Id)>,\n}\n",
             ),
             (
                 "gateway.rs",
@@ -829,7 +854,8 @@ pub const MISTAKES: &[Mistake] = &[
         &[(
             "gateway.rs",
             PLACE,
-            "rows.filter(|row| row.node == node && row.id < id && id <= 2047).count()",
+            "let is_above = !id.is_29_bits() && !id.is_in_range();
+             rows.filter(|row| row.node == node && row.id < id && !is_above).count()",
         )],
     ),
     mistake(
@@ -837,31 +863,44 @@ pub const MISTAKES: &[Mistake] = &[
         &[(
             "gateway.rs",
             PLACE,
-            "rows.filter(|row| (row.node == node || id > 2047) && row.id < id).count()",
+            "let is_above = !id.is_29_bits() && !id.is_in_range();
+             rows.filter(|row| (row.node == node || is_above) && row.id < id).count()",
         )],
     ),
     mistake(
         "the place of the low 11 bits",
-        &[(
-            "gateway.rs",
-            PLACE,
-            "rows.filter(|row| row.node == node && row.id < id % 2048).count()",
-        )],
+        &[
+            CUT,
+            (
+                "gateway.rs",
+                PLACE,
+                "let id = cut(id, 0x7FF, u32::MAX);
+             rows.filter(|row| row.node == node && row.id < id).count()",
+            ),
+        ],
     ),
     mistake(
         "the place of the low 12 bits",
-        &[(
-            "gateway.rs",
-            PLACE,
-            "rows.filter(|row| row.node == node && row.id < id % 4096).count()",
-        )],
+        &[
+            CUT,
+            (
+                "gateway.rs",
+                PLACE,
+                "let id = cut(id, 0xFFF, u32::MAX);
+             rows.filter(|row| row.node == node && row.id < id).count()",
+            ),
+        ],
     ),
     mistake(
         "the place of the ID with a sign",
         &[(
             "gateway.rs",
             PLACE,
-            "rows.filter(|row| row.node == node && (row.id as i16) < id as i16).count()",
+            "let signed = |id: Id| match id {
+                 Id::Bits11(number) => (0, i64::from(number as i16)),
+                 Id::Bits29(number) => (1, i64::from(number)),
+             };
+             rows.filter(|row| row.node == node && signed(row.id) < signed(id)).count()",
         )],
     ),
     mistake(
@@ -885,7 +924,7 @@ pub const MISTAKES: &[Mistake] = &[
         &[(
             "gateway.rs",
             PLACE,
-            "fn in_part(ids: &[u16], id: u16) -> usize {
+            "fn in_part(ids: &[Id], id: Id) -> usize {
                  let middle = ids.len() / 2;
                  match ids.get(middle) {
                      None => 0,
@@ -894,7 +933,7 @@ pub const MISTAKES: &[Mistake] = &[
                  }
              }
              let rows = rows.filter(|row| row.node == node);
-             in_part(&rows.map(|row| row.id).collect::<Vec<u16>>(), id)",
+             in_part(&rows.map(|row| row.id).collect::<Vec<Id>>(), id)",
         )],
     ),
     mistake(
@@ -902,7 +941,7 @@ pub const MISTAKES: &[Mistake] = &[
         &[(
             "gateway.rs",
             PLACE,
-            "fn in_part(ids: &[u16], id: u16) -> usize {
+            "fn in_part(ids: &[Id], id: Id) -> usize {
                  let middle = ids.len() / 2;
                  match ids.get(middle) {
                      None => 0,
@@ -911,7 +950,7 @@ pub const MISTAKES: &[Mistake] = &[
                  }
              }
              let rows = rows.filter(|row| row.node == node);
-             in_part(&rows.map(|row| row.id).collect::<Vec<u16>>(), id)",
+             in_part(&rows.map(|row| row.id).collect::<Vec<Id>>(), id)",
         )],
     ),
     mistake(
@@ -1118,8 +1157,8 @@ pub const MISTAKES: &[Mistake] = &[
         "a Tx frame needs a node before it",
         &[(
             "parse.rs",
-            "matches!(before, HEAD | NODE | TX_FRAME),",
-            "matches!(before, NODE | TX_FRAME),",
+            "matches!(before, HEAD | NODE | TX_FRAME | TX_FRAME_29)",
+            "matches!(before, NODE | TX_FRAME | TX_FRAME_29)",
         )],
     ),
     mistake(

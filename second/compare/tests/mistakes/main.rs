@@ -9,6 +9,8 @@
 //! `cargo test --offline --test mistakes -- --nocapture` prints the results.
 
 mod ages;
+mod format_plans;
+mod formats;
 mod lin;
 mod list;
 mod queues;
@@ -19,11 +21,13 @@ use std::process::{Command, Output};
 
 use ages::AGES;
 use compare::shapes::Shapes;
+use format_plans::FORMAT_PLANS;
+use formats::FORMATS;
 use lin::LIN;
 use list::{Mistake, Sentence, MISTAKES};
 use queues::QUEUES;
 
-const SOURCES: [&str; 13] = [
+const SOURCES: [&str; 14] = [
     "Cargo.toml",
     "Cargo.lock",
     "src/main.rs",
@@ -31,6 +35,7 @@ const SOURCES: [&str; 13] = [
     "src/bench.rs",
     "src/bits.rs",
     "src/gateway.rs",
+    "src/id.rs",
     "src/lin.rs",
     "src/parse.rs",
     "src/plan.rs",
@@ -126,6 +131,11 @@ fn the_unchanged_program_agrees() {
 #[test]
 fn every_planted_mistake_is_found() {
     find_all(MISTAKES.iter().chain(AGES).chain(LIN), "mistake");
+}
+
+#[test]
+fn every_planted_mistake_of_formats_is_found() {
+    find_all(FORMATS.iter().chain(FORMAT_PLANS), "formats");
 }
 
 #[test]

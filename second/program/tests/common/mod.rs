@@ -57,6 +57,57 @@ pub fn rx(
     ]
 }
 
+/// The same with a 29-bit ID.
+#[allow(clippy::too_many_arguments)]
+pub fn tx_29(
+    node: u8,
+    id: u32,
+    size: u8,
+    prescaler: u8,
+    reload: u8,
+    timer: u8,
+    flags: u8,
+    payload: [u8; 8],
+) -> Vec<u8> {
+    let record = tx(node, 0, size, prescaler, reload, timer, flags, payload);
+    with_29_bits(7, &record, id)
+}
+
+/// An Rx frame record with a 29-bit ID.
+#[allow(clippy::too_many_arguments)]
+pub fn rx_29(
+    node: u8,
+    id: u32,
+    size: u8,
+    prescaler: u8,
+    reload: u8,
+    timer: u8,
+    enable: u8,
+    failure_position: u8,
+    long_count: u8,
+) -> Vec<u8> {
+    let record = rx(
+        node,
+        0,
+        size,
+        prescaler,
+        reload,
+        timer,
+        enable,
+        failure_position,
+        long_count,
+    );
+    with_29_bits(8, &record, id)
+}
+
+/// The record as one of this kind, with a four-byte ID in place of its own.
+fn with_29_bits(kind: u8, record: &[u8], id: u32) -> Vec<u8> {
+    let mut wide = vec![kind, record[1]];
+    wide.extend(id.to_be_bytes());
+    wide.extend(&record[4..]);
+    wide
+}
+
 /// A Tx frame with nothing special: node 0, ID 256, stopped, empty payload.
 pub fn quiet_tx(size: u8, flags: u8) -> Vec<u8> {
     tx(0, 0x100, size, 1, 0, 0, flags, [0; 8])
@@ -90,6 +141,20 @@ pub fn reception(node: u8, id: u16, payload: &[u8]) -> Vec<u8> {
 pub fn reception_of_length(node: u8, id: u16, length: u8, data: [u8; 8]) -> Vec<u8> {
     let [high, low] = id.to_be_bytes();
     let mut record = vec![16, node, high, low, length];
+    record.extend(data);
+    record
+}
+
+pub fn reception_29(node: u8, id: u32, payload: &[u8]) -> Vec<u8> {
+    let mut data = [0; 8];
+    data[..payload.len()].copy_from_slice(payload);
+    reception_29_of_length(node, id, payload.len() as u8, data)
+}
+
+pub fn reception_29_of_length(node: u8, id: u32, length: u8, data: [u8; 8]) -> Vec<u8> {
+    let mut record = vec![19, node];
+    record.extend(id.to_be_bytes());
+    record.push(length);
     record.extend(data);
     record
 }

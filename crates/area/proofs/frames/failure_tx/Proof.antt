@@ -9,7 +9,7 @@ use Rattle.area.proofs.frames.failure_tx.Tie as tie
 returns : tie.Need-returns
 returns c =
     let at = c .before .before .before .args .at in
-    let e : at + 11 + 3 + 1 + 1 ≡ at + 16 = omega arith in
+    let e : at + 7 + 3 + 1 + 1 ≡ at + 12 = omega arith in
     (rw e (omega arith), omega arith)
 
 pub failure-tx-spec : {M : Type 1} → statement M

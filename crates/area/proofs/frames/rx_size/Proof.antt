@@ -9,4 +9,4 @@ unfolding rxAt
 returns c = cc
 
 pub rx-size-spec : {M : Type 1} → statement M
-rx-size-spec = tie.close (tie.spec (λ c. search needs) (λ c κs. search needs) (λ c κs. search needs) returns)
+rx-size-spec = tie.close (tie.spec (λ c κs. search needs) (λ c κs. search needs) returns)

@@ -1,6 +1,6 @@
--- `opening::record::with_row` meets its contract: three stores.
-use Rattle.opening.specs.Opened.{withRow}
+-- `opening::record::with_row` meets its contract: each part is stored by its own function.
 use borrow.Author.Needs.{needs}
+use Rattle.opening.specs.Opened.{withRow}
 use Rattle.opening.proofs.record.with_row.Statement.{statement}
 use Rattle.opening.proofs.record.with_row.Tie as tie
 
@@ -9,7 +9,4 @@ unfolding withRow
 returns c = cc
 
 pub with-row-spec : {M : Type 1} → statement M
-with-row-spec =
-    tie.close
-    (tie.spec (λ c κs. search needs) (λ c κs. search needs) (λ c κs. search needs) (λ c. search needs) (λ c κs. search needs)
-    (λ c κs. search needs) (λ c. search needs) returns)
+with-row-spec = tie.close (tie.spec (λ c κs. search needs) (λ c κs. search needs) (λ c κs. search needs) (λ c κs. search needs) (λ c. search needs) (λ c κs. search needs) (λ c. search needs) (λ c κs. search needs) (λ c. search needs) returns)

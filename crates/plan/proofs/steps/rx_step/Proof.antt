@@ -1,12 +1,9 @@
 -- `plan::steps::rx_step` meets its contract: its tests are those of the kind, in their order.
 use mathlib.Core.Path.{_∙_}
-use native.Mathlib.Omega.{arith}
-use borrow.Author.Tests.{not-false}
 use Rattle.base.specs.Pick.{pick}
 use Rattle.records.specs.Kinds.{stageOf}
-use Rattle.plan.specs.Progress.{keyOf, counted, rowAfter, after}
+use Rattle.plan.specs.Progress.{rowKey, counted, rowAfter, after}
 use Rattle.plan.proofs.StepLaws.{stops, goes, at-place, at-count, at-range, past, rx-tests}
-use Rattle.plan.proofs.TestLaws.{and-both, rx-ranges}
 use borrow.Author.Needs.{needs}
 use Rattle.plan.proofs.steps.rx_step.Statement.{statement}
 use Rattle.plan.proofs.steps.rx_step.Tie as tie
@@ -27,17 +24,8 @@ returns-3 c =
     let out = rw (tested .rx-in-range .ensures, fits .frame-fits .ensures) at (range .if3 .taken) in
     c .refuse3 .ensures ∙ at-range (rx-tests _ _ _ _) (place .if1 .left) (count .if2 .left) out
 
-add-key : tie.Need-add-key
-add-key c =
-    let range = c .before .before in
-    let tested = range .before in
-    let fits = tested .before in
-    let start = fits .before .before .before .before .before .before .before in
-    let within = rw (tested .rx-in-range .ensures, fits .frame-fits .ensures) at (range .if3 .left) in
-    omega (arith, rx-ranges _ (start .args .x) (and-both _ _ (not-false _ within) .0) .id)
-
 returns-4 : tie.Need-returns-4
-unfolding keyOf
+unfolding rowKey
 returns-4 c =
     let order = c .before in
     let key = order .before .before .before in
@@ -48,20 +36,10 @@ returns-4 c =
     let place = count .before .before in
     let within = rw (tested .rx-in-range .ensures, fits .frame-fits .ensures) at (range .if3 .left) in
     past (rx-tests _ _ _ _) (place .if1 .left) (count .if2 .left) within
-    (c .refuse4 .ensures ∙ stops _ _ _ _ (rw (key .wide .ensures .0) at (order .if4 .taken)))
-
-add-t20-2 : tie.Need-add-t20-2
-add-t20-2 c =
-    let key = c .before .before .before .before .before .before in
-    let range = key .before in
-    let tested = range .before in
-    let fits = tested .before in
-    let start = fits .before .before .before .before .before .before .before in
-    let within = rw (tested .rx-in-range .ensures, fits .frame-fits .ensures) at (range .if3 .left) in
-    omega (arith, key .wide .ensures .1, rx-ranges _ (start .args .x) (and-both _ _ (not-false _ within) .0) .id)
+    (c .refuse4 .ensures ∙ stops _ _ _ _ (rw (key .wide .ensures .0, order .before .before .key .ensures .0) at (order .if4 .taken)))
 
 returns-5 : tie.Need-returns-5
-unfolding after counted rowAfter stageOf pick keyOf
+unfolding after counted rowAfter stageOf pick rowKey
 returns-5 c =
     let awaited = c .before in
     let size = awaited .before in
@@ -74,12 +52,8 @@ returns-5 c =
     let place = count .before .before in
     let within = rw (tested .rx-in-range .ensures, fits .frame-fits .ensures) at (range .if3 .left) in
     past (rx-tests _ _ _ _) (place .if1 .left) (count .if2 .left) within
-    (goes _ _ _ _ (rw (key .wide .ensures .0) at (order .if4 .left))
-    (c .go-on .ensures ∙ rw (key .wide .ensures .0, size .wide2 .ensures .0, awaited .awaited-by .ensures)))
+    (goes _ _ _ _ (rw (key .wide .ensures .0, order .before .before .key .ensures .0) at (order .if4 .left))
+    (c .go-on .ensures ∙ rw (key .wide .ensures .0, order .before .before .key .ensures .0, size .wide2 .ensures .0, awaited .awaited-by .ensures)))
 
 pub rx-step-spec : {M : Type 1} → statement M
-rx-step-spec =
-    tie.close
-    (tie.spec (λ c κs. search needs) returns (λ c κs. search needs) returns-2 (λ c κs. search needs) (λ c κs. search needs) (λ c κs. search needs) returns-3
-    (λ c κs. search needs) (λ c. search needs) add-key (λ c κs. search needs) returns-4 (λ c. search needs) (λ c κs. search needs) (λ c. search needs)
-    (λ c κs. search needs) add-t20-2 (λ c κs. search needs) returns-5)
+rx-step-spec = tie.close (tie.spec (λ c κs. search needs) returns (λ c κs. search needs) returns-2 (λ c κs. search needs) (λ c κs. search needs) (λ c κs. search needs) returns-3 (λ c κs. search needs) (λ c. search needs) (λ c κs. search needs) (λ c. search needs) (λ c κs. search needs) returns-4 (λ c. search needs) (λ c κs. search needs) (λ c. search needs) (λ c κs. search needs) (λ c. search needs) (λ c κs. search needs) returns-5)

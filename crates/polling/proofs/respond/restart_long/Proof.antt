@@ -1,4 +1,5 @@
 -- `polling::respond::restart_long` meets its contract: the long counter takes the long count.
+use Rattle.records.specs.Kinds.{rxAt}
 use Rattle.area.specs.Layout.{rxFrame}
 use Rattle.polling.specs.Polling.{longAgain}
 use borrow.Author.Needs.{needs}
@@ -6,7 +7,7 @@ use Rattle.polling.proofs.respond.restart_long.Statement.{statement}
 use Rattle.polling.proofs.respond.restart_long.Tie as tie
 
 returns : tie.Need-returns
-unfolding longAgain rxFrame
+unfolding longAgain rxFrame rxAt
 returns c = cc
 
 pub restart-long-spec : {M : Type 1} → statement M

@@ -1,4 +1,5 @@
--- `records::decode::rx_at` meets its contract: each field is the byte, or the bytes, that the definition names.
+-- `records::decode::rx_at` meets its contract: each field is the byte that the definition names.
+use mathlib.Core.Path.{refl}
 use borrow.Author.Needs.{needs}
 use Rattle.records.specs.Kinds.{rxAt}
 use Rattle.records.proofs.decode.rx_at.Statement.{statement}
@@ -6,11 +7,7 @@ use Rattle.records.proofs.decode.rx_at.Tie as tie
 
 returns : tie.Need-returns
 unfolding rxAt
-returns c = rw (c .before .before .before .before .before .before .before .two-at .ensures .0)
+returns c = refl
 
 pub rx-at-spec : {M : Type 1} → statement M
-rx-at-spec =
-    tie.close
-    (tie.spec (λ c. search needs) (λ c. search needs) (λ c. search needs) (λ c κs. search needs) (λ c. search needs) (λ c. search needs) (λ c. search needs)
-    (λ c. search needs) (λ c. search needs) (λ c. search needs) (λ c. search needs) (λ c. search needs) (λ c. search needs) (λ c. search needs)
-    (λ c. search needs) (λ c. search needs) (λ c. search needs) (λ c. search needs) returns)
+rx-at-spec = tie.close (tie.spec (λ c. search needs) (λ c. search needs) (λ c. search needs) (λ c. search needs) (λ c. search needs) (λ c. search needs) (λ c. search needs) (λ c. search needs) (λ c. search needs) (λ c. search needs) (λ c. search needs) (λ c. search needs) (λ c. search needs) returns)

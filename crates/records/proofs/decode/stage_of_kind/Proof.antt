@@ -3,7 +3,7 @@ use native.Mathlib.Omega.{arith}
 use mathlib.Core.Path.{refl}
 use Rattle.base.specs.Pick.{pick}
 use Rattle.records.specs.Kinds.{formOf, stageOfKind}
-use Rattle.records.proofs.RecordLaws.{no-stage}
+use Rattle.records.proofs.RecordLaws.{no-kind, no-stage}
 use Rattle.records.proofs.decode.stage_of_kind.Statement.{statement}
 use Rattle.records.proofs.decode.stage_of_kind.Tie as tie
 
@@ -32,8 +32,16 @@ unfolding formOf stageOfKind pick
 returns-6 c = rw (c .if6 .taken) refl
 
 returns-7 : tie.Need-returns-7
-returns-7 c = no-stage _ (λ e. omega arith) (λ e. omega arith) (λ e. omega arith) (λ e. omega arith) (λ e. omega arith) (λ e. omega arith)
+unfolding formOf stageOfKind pick
+returns-7 c = rw (c .if7 .taken) refl
+
+returns-8 : tie.Need-returns-8
+unfolding formOf stageOfKind pick
+returns-8 c = rw (c .if8 .taken) refl
+
+returns-9 : tie.Need-returns-9
+returns-9 c = no-stage _ (no-kind (c .before .before .before .before .before .before .before .if1 .left) (c .before .before .before .before .before .before .if2 .left) (c .before .before .before .before .before .if3 .left) (c .before .before .before .before .if4 .left) (c .before .before .before .if5 .left) (c .before .before .if6 .left) (c .before .if7 .left) (c .if8 .left))
 
 pub stage-of-kind-spec : {M : Type 1} → statement M
 stage-of-kind-spec =
-    tie.close (tie.spec returns returns-2 returns-3 returns-4 returns-5 returns-6 returns-7)
+    tie.close (tie.spec returns returns-2 returns-3 returns-4 returns-5 returns-6 returns-7 returns-8 returns-9)

@@ -6,15 +6,7 @@ use Rattle.records.proofs.decode.tx_at.Tie as tie
 
 returns : tie.Need-returns
 unfolding txAt
-returns c = rw (
-  c .before .before .before .before .before .before .before .two-at .ensures .0,
-  c .before .before .before .before .before .before
-      .eight-at .ensures,
-)
+returns c = rw (c .before .before .before .before .before .eight-at .ensures)
 
 pub tx-at-spec : {M : Type 1} → statement M
-tx-at-spec =
-    tie.close
-    (tie.spec (λ c. search needs) (λ c κs. search needs) (λ c. search needs) (λ c κs. search needs) (λ c. search needs) (λ c. search needs) (λ c. search needs)
-    (λ c. search needs) (λ c. search needs) (λ c. search needs) (λ c. search needs) (λ c. search needs) (λ c. search needs) (λ c. search needs)
-    (λ c. search needs) (λ c. search needs) returns)
+tx-at-spec = tie.close (tie.spec (λ c. search needs) (λ c κs. search needs) (λ c. search needs) (λ c. search needs) (λ c. search needs) (λ c. search needs) (λ c. search needs) (λ c. search needs) (λ c. search needs) (λ c. search needs) (λ c. search needs) returns)

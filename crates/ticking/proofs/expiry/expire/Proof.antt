@@ -17,7 +17,7 @@ returns c =
     let c10 = c7 .before .before .before in
     let c14 = c10 .before .before .before .before in
     let v = c14 .args in
-    let done = expired-is (now (v .area)) (v .r .0) _ (c14 .pre .0) (c10 .rx-record-place .ensures .0) (c4 .write-failure .ensures .1) in
+    let done = expired-is (now (v .area)) (v .r .0) _ (c14 .pre .0) (c10 .rx-fields-place .ensures .0) (c4 .write-failure .ensures .1) in
     (sym (picks _ _ _ (eq-eqb _ _ (rw (c7 .long .ensures) at (c .if1 .taken)))), cc)
 
 returns-2 : tie.Need-returns-2
@@ -28,7 +28,7 @@ returns-2 c =
     let c10 = c7 .before .before .before in
     let c14 = c10 .before .before .before .before in
     let v = c14 .args in
-    let done = expired-is (now (v .area)) (v .r .0) _ (c14 .pre .0) (c10 .rx-record-place .ensures .0) (c4 .write-failure .ensures .1) in
+    let done = expired-is (now (v .area)) (v .r .0) _ (c14 .pre .0) (c10 .rx-fields-place .ensures .0) (c4 .write-failure .ensures .1) in
     (sym (passes _ _ _ (ne-eqb _ _ (rw (c7 .long .ensures) at (c .if1 .left)))), cc)
 
 pub expire-spec : {M : Type 1} → statement M

@@ -122,13 +122,23 @@ static void some_plan(void)
         }
 }
 
+// The C gateways know neither LIN nodes, whose type is 1, nor frames with 29-bit IDs, of kinds 7 and 8: so no changed byte makes one.
+static int is_known(unsigned at, unsigned byte)
+{
+    int is_type = at % 2 == 1 && at >= 3 && at < 2 + 2 * nodes;
+    return byte != 7 && byte != 8 && !(is_type && byte == 1);
+}
+
 // A byte is changed or the plan is cut.
 static void spoil(void)
 {
-    if (chance(4) == 0)
+    if (chance(4) == 0) {
         plan.length = chance(plan.length + 1);
-    else
-        plan.byte[chance(plan.length)] = chance(2) ? chance(8) : chance(256);
+        return;
+    }
+    unsigned at = chance(plan.length), byte = chance(2) ? chance(8) : chance(256);
+    if (is_known(at, byte))
+        plan.byte[at] = byte;
 }
 
 static int same_bytes(const uint8_t *a, const uint8_t *b, size_t n)

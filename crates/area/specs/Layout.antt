@@ -18,6 +18,7 @@ use Rattle.records.specs.Views.{noRx}
 use Rattle.records.specs.Kinds.{txAt, rxAt, rxFields, signalBytes}
 use Rattle.records.specs.Records.{recordsAt}
 use Rattle.plan.specs.Shortest.{shortestArea}
+use Rattle.plan.specs.Limits.{extendedIdRange}
 use Rattle.plan.specs.Rows.{Claim, withFailure, claimsFrom, awaited}
 
 -- ---- the parts of the area, each by where it begins, in their order
@@ -130,10 +131,6 @@ payloadWidth = 8
 -- a frame's home is its node, and this where its ID has 29 bits
 abbrev pub extendedHome : ℕ
 extendedHome = 16
-
--- a 29-bit ID is below this: "0 to 536,870,911" (document 02, Ticket 6)
-abbrev pub extendedRange : ℕ
-extendedRange = 536870912
 
 -- the numbers of what can wait in a queue: a Tx frame has its own, the request for an Rx frame has one past these
 abbrev pub requestsStart : ℕ
@@ -299,7 +296,7 @@ unfoldable pub idBefore : List ℕ → ℕ → ℕ → Id
 idBefore a k at =
     pick (ltb (byteAt a (home k)) extendedHome)
     (Standard (twoAt a (planStart + at - 2)))
-    (Extended (fourAt a (planStart + at - 4) % extendedRange))
+    (Extended (fourAt a (planStart + at - 4) % extendedIdRange))
 
 -- Tx frame t and Rx frame r, by the tables of homes and places
 unfoldable pub txFrame : List ℕ → ℕ → TxFrame

@@ -1,6 +1,5 @@
 // What the plan says of the frames, read where it stands in the area, by the tables of homes and places.
 use crate::layout::EXTENDED_HOME;
-use crate::layout::EXTENDED_RANGE;
 use crate::layout::FULL_START;
 use crate::layout::HOMES_START;
 use crate::layout::LAST_PLACE;
@@ -10,6 +9,7 @@ use crate::layout::RX_PLACES_START;
 use crate::layout::TX_PLACES_START;
 use base::at_most;
 use base::wide;
+use plan::limits::EXTENDED_ID_RANGE;
 use records::record::Id;
 use records::record::RxNumber;
 use records::record::TxNumber;
@@ -60,7 +60,7 @@ fn id_before(area: &[u8], k: usize, at: usize) -> Id
     if area[HOMES_START + k] < EXTENDED_HOME {
         return Id::Standard(base::two_at(area, PLAN_START + at - 2));
     }
-    Id::Extended(base::four_at(area, PLAN_START + at - 4) % EXTENDED_RANGE)
+    Id::Extended(base::four_at(area, PLAN_START + at - 4) % EXTENDED_ID_RANGE)
 }
 
 // ---- Tx frame `t`

@@ -75,9 +75,6 @@ pub const PAYLOAD_WIDTH: usize = 8;
 // a frame's home is its node, and this where its ID has 29 bits
 pub const EXTENDED_HOME: u8 = 16;
 
-// a 29-bit ID is below this
-pub const EXTENDED_RANGE: usize = 536870912;
-
 // the numbers of what can wait in a queue: a Tx frame has its own, the request for an Rx frame has one past these
 pub const REQUESTS_START: usize = 256;
 

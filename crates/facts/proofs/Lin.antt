@@ -243,12 +243,12 @@ types-by-number rs h n l =
 
 lin-id : (id : Id) (size : ℕ) → isLinId id ≡ true → 1 ≤ size → size ≤ 8 → LinRanges id size
 unfolding isLinId
-lin-id (Standard n) size e some most = record { number = n; short = refl; below = ltb-true n linIdRange e; some = some; most = most }
+lin-id (Standard n) size e some most = record { number = n; standard = refl; below = ltb-true n linIdRange e; some = some; most = most }
 lin-id (Extended n) size e some most = absurd (false≢true e)
 
 id-lin : (id : Id) (size : ℕ) → LinRanges id size → isLinId id ≡ true
 unfolding isLinId
-id-lin id size k = rw (k .short) (lt-ltb (k .number) linIdRange (k .below))
+id-lin id size k = rw (k .standard) (lt-ltb (k .number) linIdRange (k .below))
 
 module _ (rs : List Record) (last : Along LinLast rs) where
   pub frame-lin : (node : ℕ) (id : Id) (size : ℕ) → size ≤ 8 → frameFits (cansIn rs) node id size ≡ true → OnLin (typesIn rs) node id size

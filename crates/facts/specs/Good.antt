@@ -95,7 +95,7 @@ InRange plan = Each (λ r. inRange (nodesIn (records plan)) r ≡ true) (records
 
 pub record LinRanges (id : Id) (size : ℕ) : Type 0 where
   pub number : ℕ
-  pub short : id ≡ Standard number
+  pub standard : id ≡ Standard number
   pub below : number < 60
   pub some : 1 ≤ size
   pub most : size ≤ 8

@@ -47,12 +47,12 @@ abbrev pub linTx : ℕ → ℕ → List ℕ
 linTx id size = 0x03 ∷ 0x01 ∷ 0x00 ∷ id ∷ size ∷ 0x01 ∷ 0x03 ∷ 0x03 ∷ 0x00 ∷ 0x00 ∷ 0x00 ∷ 0x00 ∷ 0x00 ∷ 0x00 ∷ 0x00 ∷ 0x00 ∷ 0x00 ∷ []
 
 -- frames with a four-byte ID (document 02, Ticket 6): the node and the ID's bytes. The Tx frame has two bytes and is sent on reception, the Rx frame one byte
-abbrev pub longTx : ℕ → ℕ → ℕ → ℕ → ℕ → List ℕ
-longTx on a b c d =
+abbrev pub extendedTx : ℕ → ℕ → ℕ → ℕ → ℕ → List ℕ
+extendedTx on a b c d =
     0x07 ∷ on ∷ a ∷ b ∷ c ∷ d ∷ 0x02 ∷ 0x01 ∷ 0x00 ∷ 0x00 ∷ 0x01 ∷ 0x00 ∷ 0x00 ∷ 0x00 ∷ 0x00 ∷ 0x00 ∷ 0x00 ∷ 0x00 ∷ 0x00 ∷ []
 
-abbrev pub longRx : ℕ → ℕ → ℕ → ℕ → ℕ → List ℕ
-longRx on a b c d = 0x08 ∷ on ∷ a ∷ b ∷ c ∷ d ∷ 0x01 ∷ 0x01 ∷ 0x02 ∷ 0x02 ∷ 0x00 ∷ 0x00 ∷ 0x02 ∷ []
+abbrev pub extendedRx : ℕ → ℕ → ℕ → ℕ → ℕ → List ℕ
+extendedRx on a b c d = 0x08 ∷ on ∷ a ∷ b ∷ c ∷ d ∷ 0x01 ∷ 0x01 ∷ 0x02 ∷ 0x02 ∷ 0x00 ∷ 0x00 ∷ 0x02 ∷ []
 
 -- a head, a node, a Tx frame of two bytes, and an Rx frame of one byte with no failure bit, or with one at a position
 abbrev pub plain : List ℕ
@@ -71,7 +71,7 @@ listing =
 -- ID 20 hex in both formats on one node (document 02, Ticket 6), the one copied to the first byte of a Tx frame with a 29-bit ID, the other to its second
 abbrev pub bridge : List ℕ
 bridge =
-    head ++ node ++ longTx 0 0x09 0xF8 0x01 0x00 ++ rx 0 0x00 0x20 1 0 0 ++ signal 0 8 ++ destination 0 0 ++ longRx 0 0x00 0x00 0x00 0x20 ++ signal 0 8
+    head ++ node ++ extendedTx 0 0x09 0xF8 0x01 0x00 ++ rx 0 0x00 0x20 1 0 0 ++ signal 0 8 ++ destination 0 0 ++ extendedRx 0 0x00 0x00 0x00 0x20 ++ signal 0 8
     ++ destination 0 8
 
 -- "The pumps on LIN" (document 02, Ticket 2): node 0 is a CAN node, node 1 a LIN node
@@ -156,22 +156,22 @@ planCases =
     ∷ record { plan = head ++ node ++ 0x09 ∷ []; verdict = Refused Kind 2 }
     ∷ record { plan = head ++ node ++ 0x07 ∷ 0x00 ∷ []; verdict = Refused Short 2 }
     ∷ record { plan = head ++ node ++ 0x08 ∷ 0x00 ∷ []; verdict = Refused Short 2 }
-    ∷ record { plan = head ++ node ++ rx 0 0x00 0x20 1 0 0 ++ longTx 0 0 0 0 0; verdict = Refused Place 3 }
+    ∷ record { plan = head ++ node ++ rx 0 0x00 0x20 1 0 0 ++ extendedTx 0 0 0 0 0; verdict = Refused Place 3 }
     -- 5: IDs "0 to 536,870,911"; a node that there is not; "5 for these on a LIN node"
-    ∷ record { plan = head ++ node ++ longTx 0 0x1F 0xFF 0xFF 0xFF ++ longRx 0 0x1F 0xFF 0xFF 0xFF; verdict = Good 1 1 1 }
-    ∷ record { plan = head ++ node ++ longTx 0 0x20 0x00 0x00 0x00; verdict = Refused Range 2 }
-    ∷ record { plan = head ++ node ++ longRx 0 0x20 0x00 0x00 0x00; verdict = Refused Range 2 }
-    ∷ record { plan = head ++ node ++ longRx 0 0xFF 0xFF 0xFF 0xFF; verdict = Refused Range 2 }
-    ∷ record { plan = head ++ node ++ longRx 1 0 0 0 0; verdict = Refused Range 2 }
-    ∷ record { plan = head ++ lin ++ longTx 0 0 0 0 1; verdict = Refused Range 2 }
-    ∷ record { plan = head ++ lin ++ longRx 0 0 0 0 1; verdict = Refused Range 2 }
+    ∷ record { plan = head ++ node ++ extendedTx 0 0x1F 0xFF 0xFF 0xFF ++ extendedRx 0 0x1F 0xFF 0xFF 0xFF; verdict = Good 1 1 1 }
+    ∷ record { plan = head ++ node ++ extendedTx 0 0x20 0x00 0x00 0x00; verdict = Refused Range 2 }
+    ∷ record { plan = head ++ node ++ extendedRx 0 0x20 0x00 0x00 0x00; verdict = Refused Range 2 }
+    ∷ record { plan = head ++ node ++ extendedRx 0 0xFF 0xFF 0xFF 0xFF; verdict = Refused Range 2 }
+    ∷ record { plan = head ++ node ++ extendedRx 1 0 0 0 0; verdict = Refused Range 2 }
+    ∷ record { plan = head ++ lin ++ extendedTx 0 0 0 0 1; verdict = Refused Range 2 }
+    ∷ record { plan = head ++ lin ++ extendedRx 0 0 0 0 1; verdict = Refused Range 2 }
     -- 6: "11-bit rows come before 29-bit ones, each in ascending order"
-    ∷ record { plan = head ++ node ++ longRx 0 0 0 0 0x1F ++ rx 0 0x00 0x20 1 0 0; verdict = Refused Order 3 }
-    ∷ record { plan = head ++ node ++ longRx 0 0 0 0 0x20 ++ longRx 0 0 0 0 0x20; verdict = Refused Order 3 }
-    ∷ record { plan = head ++ node ++ longRx 0 0 1 0 0 ++ longRx 0 0 0 0xFF 0xFF; verdict = Refused Order 3 }
-    ∷ record { plan = head ++ node ++ longRx 0 0x1F 0xFF 0xFF 0xFE ++ longRx 0 0x1F 0xFF 0xFF 0xFF; verdict = Good 1 0 2 }
-    ∷ record { plan = head ++ node ++ rx 0 0x07 0xFF 1 0 0 ++ longRx 0 0 0 0 0; verdict = Good 1 0 2 }
-    ∷ record { plan = head ++ node ++ node ++ longRx 0 0x1F 0xFF 0xFF 0xFF ++ rx 1 0x00 0x00 1 0 0; verdict = Good 2 0 2 }
+    ∷ record { plan = head ++ node ++ extendedRx 0 0 0 0 0x1F ++ rx 0 0x00 0x20 1 0 0; verdict = Refused Order 3 }
+    ∷ record { plan = head ++ node ++ extendedRx 0 0 0 0 0x20 ++ extendedRx 0 0 0 0 0x20; verdict = Refused Order 3 }
+    ∷ record { plan = head ++ node ++ extendedRx 0 0 1 0 0 ++ extendedRx 0 0 0 0xFF 0xFF; verdict = Refused Order 3 }
+    ∷ record { plan = head ++ node ++ extendedRx 0 0x1F 0xFF 0xFF 0xFE ++ extendedRx 0 0x1F 0xFF 0xFF 0xFF; verdict = Good 1 0 2 }
+    ∷ record { plan = head ++ node ++ rx 0 0x07 0xFF 1 0 0 ++ extendedRx 0 0 0 0 0; verdict = Good 1 0 2 }
+    ∷ record { plan = head ++ node ++ node ++ extendedRx 0 0x1F 0xFF 0xFF 0xFF ++ rx 1 0x00 0x00 1 0 0; verdict = Good 2 0 2 }
     ∷ record { plan = bridge; verdict = Good 1 1 2 }
     ∷ []
 

@@ -10,50 +10,50 @@ use Rattle.tables.specs.Reads.{rowAt}
 use Rattle.model.specs.Plan.{said}
 use Rattle.model.specs.Words.{Those, Smaller}
 use Rattle.history.specs.Strangers.{Belongs}
-use Rattle.history.specs.Formats.{ShortRow, LongRow, Many, BeforeShort, BeforeLong, PlacesByFormat}
+use Rattle.history.specs.Formats.{StandardRow, ExtendedRow, Many, BeforeStandard, BeforeExtended, PlacesByFormat}
 use Rattle.history.proofs.Strangers.{strangers-belong}
 
 -- ---- what comes before an ID
 
-short-before : (x : Id) (i : ℕ) → Before x (Standard i) → (m : ℕ) × (x ≡ Standard m) × (m < i)
+standard-before : (x : Id) (i : ℕ) → Before x (Standard i) → (m : ℕ) × (x ≡ Standard m) × (m < i)
 unfolding Before
-short-before (Standard m) i b = (m, refl, b)
-short-before (Extended m) i b = absurd b
+standard-before (Standard m) i b = (m, refl, b)
+standard-before (Extended m) i b = absurd b
 
-long-before : (x : Id) (i : ℕ) → Before x (Extended i) → ((m : ℕ) × (x ≡ Standard m)) ⊎ ((m : ℕ) × (x ≡ Extended m) × (m < i))
+extended-before : (x : Id) (i : ℕ) → Before x (Extended i) → ((m : ℕ) × (x ≡ Standard m)) ⊎ ((m : ℕ) × (x ≡ Extended m) × (m < i))
 unfolding Before
-long-before (Standard m) i b = inl (m, refl)
-long-before (Extended m) i b = inr (m, refl, b)
+extended-before (Standard m) i b = inl (m, refl)
+extended-before (Extended m) i b = inr (m, refl, b)
 
-before-short : (m i : ℕ) → m < i → Before (Standard m) (Standard i)
+before-standard : (m i : ℕ) → m < i → Before (Standard m) (Standard i)
 unfolding Before
-before-short m i l = l
+before-standard m i l = l
 
 before-any : (m i : ℕ) → Before (Standard m) (Extended i)
 unfolding Before
 before-any m i = tt
 
-before-long : (m i : ℕ) → m < i → Before (Extended m) (Extended i)
+before-extended : (m i : ℕ) → m < i → Before (Extended m) (Extended i)
 unfolding Before
-before-long m i l = l
+before-extended m i l = l
 
 -- ---- the rows
 
 module _ (plan : List ℕ) (n i r : ℕ) where
-  short-rows : Smaller (said plan) n (Standard i) r ↔ BeforeShort plan n i r
-  short-rows = (
-    (λ x. let (m, e, l) = short-before _ i (x .id) in (m, record { exists = x .exists; node = x .node; id = e }, l)),
-    (λ (m, x, l). record { exists = x .exists; node = x .node; id = subst (λ y. Before y (Standard i)) (sym (x .id)) (before-short m i l) }),
+  standard-rows : Smaller (said plan) n (Standard i) r ↔ BeforeStandard plan n i r
+  standard-rows = (
+    (λ x. let (m, e, l) = standard-before _ i (x .id) in (m, record { exists = x .exists; node = x .node; id = e }, l)),
+    (λ (m, x, l). record { exists = x .exists; node = x .node; id = subst (λ y. Before y (Standard i)) (sym (x .id)) (before-standard m i l) }),
   )
 
-  long-rows : Smaller (said plan) n (Extended i) r ↔ BeforeLong plan n i r
-  long-rows = (
+  extended-rows : Smaller (said plan) n (Extended i) r ↔ BeforeExtended plan n i r
+  extended-rows = (
     (λ x.
         ⊎-elim (λ (m, e). inl (m, record { exists = x .exists; node = x .node; id = e }))
-        (λ (m, e, l). inr (m, record { exists = x .exists; node = x .node; id = e }, l)) (long-before _ i (x .id))),
+        (λ (m, e, l). inr (m, record { exists = x .exists; node = x .node; id = e }, l)) (extended-before _ i (x .id))),
     ⊎-elim
         (λ (m, x). record { exists = x .exists; node = x .node; id = subst (λ y. Before y (Extended i)) (sym (x .id)) (before-any m i) })
-        (λ (m, x, l). record { exists = x .exists; node = x .node; id = subst (λ y. Before y (Extended i)) (sym (x .id)) (before-long m i l) }),
+        (λ (m, x, l). record { exists = x .exists; node = x .node; id = subst (λ y. Before y (Extended i)) (sym (x .id)) (before-extended m i l) }),
   )
 
 -- exactly the same numbers have one property as the other
@@ -63,10 +63,10 @@ those-like f t = record { order = t .order; exactly = λ r. (λ i. f r .0 (t .ex
 pub places-by-format : PlacesByFormat
 places-by-format =
     record {
-      short = λ a calls plan is n number place payload answered.
+      standard = λ a calls plan is n number place payload answered.
           let b = strangers-belong a calls plan is n (Standard number) place payload answered in
-          record { numbers = b .rows; those = those-like (short-rows plan n number) (b .those); many = b .many };
-      long = λ a calls plan is n number place payload answered.
+          record { numbers = b .rows; those = those-like (standard-rows plan n number) (b .those); many = b .many };
+      extended = λ a calls plan is n number place payload answered.
           let b = strangers-belong a calls plan is n (Extended number) place payload answered in
-          record { numbers = b .rows; those = those-like (long-rows plan n number) (b .those); many = b .many };
+          record { numbers = b .rows; those = those-like (extended-rows plan n number) (b .those); many = b .many };
     }

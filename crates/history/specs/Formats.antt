@@ -16,12 +16,12 @@ use Rattle.history.specs.Calls.{answerIn, afterIn}
 use Rattle.history.specs.Past.{pastOf}
 
 -- Rx frame r of a plan is one of node n, with an 11-bit ID, and with a 29-bit ID
-pub record ShortRow (plan : List ℕ) (n number r : ℕ) : Type 0 where
+pub record StandardRow (plan : List ℕ) (n number r : ℕ) : Type 0 where
   pub exists : r < length (rowsOf plan)
   pub node : rowAt plan r .frame .node ≡ n
   pub id : rowAt plan r .frame .id ≡ Standard number
 
-pub record LongRow (plan : List ℕ) (n number r : ℕ) : Type 0 where
+pub record ExtendedRow (plan : List ℕ) (n number r : ℕ) : Type 0 where
   pub exists : r < length (rowsOf plan)
   pub node : rowAt plan r .frame .node ≡ n
   pub id : rowAt plan r .frame .id ≡ Extended number
@@ -34,15 +34,15 @@ pub record Many (P : ℕ → Type 0) (count : ℕ) : Type 0 where
 
 -- what the place of a stranger counts: before an 11-bit ID the 11-bit rows with a smaller number; before a 29-bit ID all 11-bit rows, and the 29-bit rows
 -- with a smaller number
-abbrev pub BeforeShort : List ℕ → ℕ → ℕ → ℕ → Type 0
-BeforeShort plan n number r = (m : ℕ) × ShortRow plan n m r × (m < number)
+abbrev pub BeforeStandard : List ℕ → ℕ → ℕ → ℕ → Type 0
+BeforeStandard plan n number r = (m : ℕ) × StandardRow plan n m r × (m < number)
 
-abbrev pub BeforeLong : List ℕ → ℕ → ℕ → ℕ → Type 0
-BeforeLong plan n number r = ((m : ℕ) × ShortRow plan n m r) ⊎ ((m : ℕ) × LongRow plan n m r × (m < number))
+abbrev pub BeforeExtended : List ℕ → ℕ → ℕ → ℕ → Type 0
+BeforeExtended plan n number r = ((m : ℕ) × StandardRow plan n m r) ⊎ ((m : ℕ) × ExtendedRow plan n m r × (m < number))
 
 -- of every reception that answers 1, after any openings and calls on any area
 pub record PlacesByFormat : Type 0 where
-  pub short : (a : List ℕ) (calls : List Step) (plan : List ℕ) → pastOf calls a .plan ≡ some plan → (n number place : ℕ) (payload : List ℕ)
-      → answerIn (afterIn a calls) (reception n (Standard number) payload) ≡ received (NoRow place) → Many (BeforeShort plan n number) place
-  pub long : (a : List ℕ) (calls : List Step) (plan : List ℕ) → pastOf calls a .plan ≡ some plan → (n number place : ℕ) (payload : List ℕ)
-      → answerIn (afterIn a calls) (reception n (Extended number) payload) ≡ received (NoRow place) → Many (BeforeLong plan n number) place
+  pub standard : (a : List ℕ) (calls : List Step) (plan : List ℕ) → pastOf calls a .plan ≡ some plan → (n number place : ℕ) (payload : List ℕ)
+      → answerIn (afterIn a calls) (reception n (Standard number) payload) ≡ received (NoRow place) → Many (BeforeStandard plan n number) place
+  pub extended : (a : List ℕ) (calls : List Step) (plan : List ℕ) → pastOf calls a .plan ≡ some plan → (n number place : ℕ) (payload : List ℕ)
+      → answerIn (afterIn a calls) (reception n (Extended number) payload) ≡ received (NoRow place) → Many (BeforeExtended plan n number) place

@@ -12,6 +12,7 @@ use area::layout;
 use area::layout::AREA_LENGTH;
 use area::layout::in_width;
 use base::at_most;
+use records::record::FORMAT_BIT;
 use records::record::Id;
 use records::record::TxNumber;
 ghost use mathlib.Core.Path.{_≡_};
@@ -191,10 +192,7 @@ fn checksum_in(framing: Framing) -> u8
     }
 }
 
-// The bit of a SocketCAN identifier that says that the ID has 29 bits.
-const FORMAT_BIT: usize = 2147483648;
-
-// The ID that such a number stands for.
+// The ID that a SocketCAN identifier stands for.
 pub fn id_in(word: u32) -> Id
     ensures { λ r. ⌜ r ≡ idIn word ⌝ }
 {
@@ -206,7 +204,7 @@ pub fn id_in(word: u32) -> Id
     Id::Extended(number)
 }
 
-// An ID as such a number.
+// An ID as such an identifier.
 fn word_of(id: Id) -> u32
     ensures { λ r. ⌜ r ≡ wordOf id ⌝ }
 {

@@ -38,8 +38,8 @@ pub enum Id {
     Extended(usize),
 }
 
-// Behind the largest number that stands below the format in a key.
-const FORMAT_BIT: usize = 2147483648;
+// The format in a key, as in a SocketCAN identifier, and the largest number that stands below it.
+pub const FORMAT_BIT: usize = 2147483648;
 
 const LAST_NUMBER: usize = 2147483647;
 

@@ -1,4 +1,6 @@
 // What the calls answer.
+#![tactic(auto)]
+
 ghost use Rattle.std.specs.Prelude.{◌≡◌};
 ghost use Rattle.plan.specs.Refusals.{number_of};
 ghost use Rattle.answers.specs.Answers.{refusal_number};
@@ -7,7 +9,7 @@ use plan::verdict::Reason;
 use records::record::{Id, RxNumber, TxNumber};
 
 // Why a call is refused.
-#[derive(Drop)]
+#[derive(Clone, Copy)]
 pub enum Refusal {
     // 1 to 9: the plan is refused
     Plan(Reason),
@@ -27,13 +29,13 @@ pub enum Refusal {
     WrongCall,
 }
 
-#[derive(Drop)]
+#[derive(Clone, Copy)]
 pub enum Opened {
     Open { nodes: usize, tx: usize, rx: usize },
     Refused { why: Refusal, record: usize },
 }
 
-#[derive(Drop)]
+#[derive(Clone, Copy)]
 pub enum Received {
     // 0
     Accepted,
@@ -45,7 +47,7 @@ pub enum Received {
 }
 
 // What a response on LIN is answered.
-#[derive(Drop)]
+#[derive(Clone, Copy)]
 pub enum Responded {
     // 0
     Accepted,
@@ -57,7 +59,7 @@ pub enum Responded {
 }
 
 // What "no response" is answered: as a report would say.
-#[derive(Drop)]
+#[derive(Clone, Copy)]
 pub enum Silence {
     // 1: a short timeout
     Short,
@@ -66,20 +68,20 @@ pub enum Silence {
     Refused(Refusal),
 }
 
-#[derive(Drop)]
+#[derive(Clone, Copy)]
 pub enum Ticked {
     Done,
     Refused(Refusal),
 }
 
 // What is sent with a frame: nothing on CAN; on LIN the protected identifier and the checksum of the payload.
-#[derive(Drop)]
+#[derive(Clone, Copy)]
 pub enum Framing {
     Can,
     Lin { protected: u8, checksum: u8 },
 }
 
-#[derive(Drop)]
+#[derive(Clone, Copy)]
 pub struct TakenFrame {
     pub tx: TxNumber,
     pub id: Id,
@@ -90,7 +92,7 @@ pub struct TakenFrame {
 }
 
 // A request for an Rx frame of a LIN node, which has no payload.
-#[derive(Drop)]
+#[derive(Clone, Copy)]
 pub struct TakenRequest {
     pub rx: RxNumber,
     pub id: Id,
@@ -99,7 +101,7 @@ pub struct TakenRequest {
     pub protected: u8,
 }
 
-#[derive(Drop)]
+#[derive(Clone, Copy)]
 pub enum Taken {
     Nothing,
     Frame(TakenFrame),
@@ -107,7 +109,7 @@ pub enum Taken {
     Refused(Refusal),
 }
 
-#[derive(Drop)]
+#[derive(Clone, Copy)]
 pub enum Fullness {
     Owned(usize),
     Refused(Refusal),

@@ -3,7 +3,7 @@
 use mathlib.Core.Path.{◌≡◌, refl, ◌∙◌}
 use mathlib.Core.Bool.{Bool}
 use mathlib.Core.List.{List, [], ◌∷◌}
-use Prim.Native.Nat.{ℕ, zero, suc, ◌+◌, ◌-◌, ◌<◌, ◌≤◌, ◌/◌, ◌%◌}
+use Prim.Native.Nat.{ℕ, zero, suc, ◌+◌, ◌<◌, ◌≤◌, ◌/◌, ◌%◌}
 use native.Mathlib.Nat.{add-zero, lt_of_lt_of_le}
 use native.Mathlib.Omega.{arith}
 use lib.ListN.{length, set, drop, length-set, length-drop}
@@ -11,12 +11,11 @@ use lib.Seq.{get_or-set_other, get_or-drop, ext_get_or}
 use Rattle.base.specs.Pick.{pick}
 use Rattle.base.specs.Numbers.{byte_at, low_at, set_low}
 use Rattle.base.proofs.Picks.{both}
-use Rattle.base.proofs.Ranges.{at_most-le}
 use Rattle.bits.specs.Payload.{bit_at, set_bit, copied}
 use Rattle.bits.proofs.Fitting.{fitting-le}
 use Rattle.plan.specs.Rows.{Source, copy, failure, width_of, Claim}
 use Rattle.area.specs.declared.queue.Ends.{Ends}
-use Rattle.area.specs.Layout.{tx_reloads_start, full_start, entries_start, payloads_start, masks_end, requests_start, entry_count, queue, waits, tx_timer, spot}
+use Rattle.area.specs.Layout.{tx_reloads_start, full_start, entries_start, payloads_start, masks_end, requests_start, queue, waits, tx_timer, spot}
 use Rattle.area.specs.Queue.{ends_of, slot, behind, set_ends, queued, scheduled, requested, oldest, dequeued}
 use Rattle.area.specs.Claims.{RxEvent, accepted, expired, sent_if, done_by, sent_by, done, all_done}
 

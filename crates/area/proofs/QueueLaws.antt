@@ -2,7 +2,7 @@
 use mathlib.Core.Path.{◌≡◌, refl, ap, ◌∙◌}
 use mathlib.Core.Logic.{◌≢◌, ◌⊎◌, inl, inr, ⊎_elim}
 use mathlib.Core.List.{List, [], ◌∷◌, ◌++◌}
-use Prim.Native.Nat.{ℕ, zero, suc, ◌+◌, ◌-◌, ◌*◌, ◌<◌, ◌≤◌, ◌/◌, ◌%◌}
+use Prim.Native.Nat.{ℕ, zero, suc, ◌+◌, ◌-◌, ◌<◌, ◌≤◌}
 use native.Mathlib.Decide.{dec_lt}
 use native.Mathlib.Nat.{add-zero, zero-add, mod-eq_of_lt}
 use native.Mathlib.Numerals.{add-one}
@@ -14,7 +14,7 @@ use Rattle.base.specs.Numbers.{byte_at, low_at, set_low}
 use Rattle.base.proofs.Picks.{picks, passes, cases}
 use Rattle.base.proofs.Ranges.{low_same}
 use Rattle.area.specs.declared.queue.Ends.{Ends}
-use Rattle.area.specs.Layout.{queues_start, tx_reloads_start, entries_start, payloads_start, requests_start, waiter_range, entry_count, LongEnough}
+use Rattle.area.specs.Layout.{queues_start, tx_reloads_start, entries_start, payloads_start, requests_start, waiter_range, LongEnough}
 use Rattle.area.specs.Layout.{queue, entry, waits, tx_timer, home_node}
 use Rattle.area.specs.Queue.{ends_of, past, slot, behind, entry_at, added, removed, set_ends, queued, scheduled, requested, oldest, dequeued}
 use Rattle.area.specs.Queue.{entries, queue_of, Sound, Apart}

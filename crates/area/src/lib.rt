@@ -1,4 +1,6 @@
 // The area that a caller lends: what stands where, the queues, and scheduling.
+#![tactic(auto)]
+
 pub mod claims;
 pub mod frames;
 pub mod header;

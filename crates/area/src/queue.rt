@@ -11,7 +11,7 @@ use crate::layout::{
 use records::record::{Entry, RxNumber, TxNumber};
 
 // The ends of a queue: where its ring begins, how many entries the ring has room for, where the oldest is, and how many wait.
-#[derive(Drop)]
+#[derive(Clone, Copy)]
 pub struct Ends {
     pub start: usize,
     pub room: usize,

@@ -1,4 +1,6 @@
 // What every crate above uses: a byte as a wide number, numbers of two and four bytes, and a number brought into range.
+#![tactic(auto)]
+
 ghost use Rattle.std.specs.Prelude.{◌≡◌, ◌+◌, ◌^◌, ◌≤◌, ◌<◌, length};
 ghost use Rattle.base.specs.Numbers.{two_at, four_at, low_at, set_low, at_most};
 

@@ -1,5 +1,8 @@
 // Document 01's bench program: a plan and events on standard input, a line for each on standard output.
-ghost use Rattle.std.specs.Prelude.{◌≡◌, ◌++◌, ◌+◌, ◌%◌, ◌≤◌, ◌<◌, length, take, replicate};
+#![tactic(auto)]
+
+ghost use Rattle.std.specs.Prelude.{◌≡◌, ◌++◌, ◌+◌, ◌%◌, ◌≤◌, ◌<◌, length, take, replicate, true, IfSome};
+ghost use Rattle.std.specs.Io.KnownBytes.{Appends, Consumes, IsAtEnd};
 ghost use Rattle.records.specs.Ids.{behind_id};
 ghost use Rattle.area.specs.Layout.{area_length};
 ghost use Rattle.reception.specs.Reception.{received_area};
@@ -20,6 +23,7 @@ use polling::respond::respond;
 use polling::silence::no_response;
 use reception::receive::receive;
 use records::record::Id;
+use std::io::{Read, Write};
 use taking::{payload, take};
 use ticking::tick::tick;
 
@@ -218,37 +222,94 @@ fn begin(input: &[u8], area: &mut [u8], out: &mut [u8]) -> Begun
     }
 }
 
-// Writes the first bytes of a buffer to standard output. The answer is how many it handed on.
-fn show(text: &[u8], size: usize) -> usize
-    requires { size ≤ length text.now }
-    ensures { result ≡ size }
-{
-    let shown = &text[..size];
-    io::write_all(1, shown);
-    shown.len()
+// How many bytes were read or handed on, and whether no read or write failed.
+#[derive(Clone, Copy)]
+struct Moved {
+    size: usize,
+    ok: bool,
 }
 
-// The whole input, one buffer after the other. The answer is how many bytes were handed on: as many as the output has.
-fn run(input: &[u8]) -> usize
+// Reads until the buffer is full, the input ends or a read fails.
+fn read_input<R: Read>(reader: &mut R, buf: &mut [u8]) -> Moved
+    ensures inside { result.size ≤ length buf.new }
+    ensures bytes { Consumes (R.remaining reader.old) (R.remaining reader.new) (take result.size buf.new) }
+    ensures end { result.ok ≡ true → result.size < length buf.new → IsAtEnd (R.remaining reader.new) }
+{
+    let mut done = 0;
+    while done < buf.len() {
+        match reader.read(&mut buf[done..]) {
+            Ok(0) => {
+                return Moved {
+                    size: done,
+                    ok: true,
+                };
+            }
+            Ok(n) => done += n,
+            Err(_) => {
+                return Moved {
+                    size: done,
+                    ok: false,
+                };
+            }
+        }
+    }
+    Moved {
+        size: done,
+        ok: true,
+    }
+}
+
+// Writes the first bytes of a buffer. The size is how many it handed on.
+fn show<W: Write>(writer: &mut W, text: &[u8], size: usize) -> Moved
+    requires { size ≤ length text.now }
+    ensures size { result.size ≡ size }
+    ensures bytes { result.ok ≡ true
+        → Appends (W.contents writer.old) (W.contents writer.new) (take size text.now) }
+{
+    let shown = &text[..size];
+    let ok = writer.write_all(shown).is_ok();
+    Moved {
+        size: shown.len(),
+        ok,
+    }
+}
+
+// The whole input, one buffer after the other. The size is how many bytes were handed on: as many as the output has.
+fn run<W: Write>(input: &[u8], writer: &mut W) -> Moved
     requires { length input.now ≤ 65537 }
-    ensures { result ≡ length (bench_output input.now) }
+    ensures size { result.size ≡ length (bench_output input.now) }
+    ensures bytes { result.ok ≡ true
+        → Appends (W.contents writer.old) (W.contents writer.new) (bench_output input.now) }
 {
     let mut area = [0u8; AREA_LENGTH];
     let mut out = [0u8; 65536];
     let first = begin(input, &mut area, &mut out);
-    let mut total = show(&out, first.size);
+    let shown = show(writer, &out, first.size);
+    let mut total = shown.size;
+    let mut ok = shown.ok;
     let rx = first.rx;
     let mut at = first.next;
     while at < input.len() {
         let step = fill(input, at, &mut area, rx, &mut out);
-        total += show(&out, step.size);
+        let shown = show(writer, &out, step.size);
+        total += shown.size;
+        ok = ok && shown.ok;
         at = step.next;
     }
-    total
+    Moved { size: total, ok }
 }
 
-fn main() {
+// From a reader to a writer. Where nothing failed, what is written is the output for all the reader's bytes.
+fn serve<R: Read, W: Write>(reader: &mut R, writer: &mut W) -> bool
+    ensures { result ≡ true → IfSome (R.remaining reader.old)
+        (λ input. Appends (W.contents writer.old) (W.contents writer.new) (bench_output input)) }
+{
     let mut input = [0u8; 65537];
-    let n = io::read_full(0, &mut input);
-    run(&input[..n]);
+    let read = read_input(reader, &mut input);
+    let written = run(&input[..read.size], writer);
+    read.ok && written.ok
+}
+
+fn main(rt: HostRuntime) {
+    serve(&mut rt.stdin(), &mut rt.stdout());
 }

@@ -1,4 +1,6 @@
 // The bits of a payload, the copy of a signal, and which bits of a frame have an owner.
+#![tactic(auto)]
+
 mod digits;
 pub mod owners;
 pub mod payload;

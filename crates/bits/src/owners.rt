@@ -3,7 +3,7 @@ ghost use Rattle.std.specs.Prelude.{◌≡◌, ◌+◌, ◌≤◌, ◌<◌};
 ghost use Rattle.bits.specs.Owners.{owners, joined};
 
 // What joining bits to a set finds: the set that has them too, or a bit that would have two owners.
-#[derive(Drop)]
+#[derive(Clone, Copy)]
 pub enum Joined {
     Set(u64),
     Clash,

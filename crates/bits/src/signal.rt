@@ -9,7 +9,7 @@ use crate::word::{big_bytes, from_bit, little_bytes, low_first, ones_of};
 use base::at_most;
 
 // A signal of a payload: where it stands there, its size, its bits from the first on, and a one for each of them, 64 at most.
-#[derive(Drop)]
+#[derive(Clone, Copy)]
 pub struct Signal {
     pub position: usize,
     pub size: usize,

@@ -19,7 +19,6 @@ use Rattle.plan.specs.Tests.{is_whole}
 use Rattle.facts.specs.Good.{Each}
 use Rattle.facts.proofs.Lists.{Each-map}
 use Rattle.claims.specs.Claims.{Whole, IsSignal, IsDestination, Own}
-use Rattle.claims.specs.Owners.{destination}
 
 -- ---- the stage of a whole record says which it is
 

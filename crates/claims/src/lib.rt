@@ -1,4 +1,6 @@
 // What a plan's rows and claims are, in words of its records: theorems about the definitions of `plan`, and no code of its own.
+#![tactic(auto)]
+
 ghost use Rattle.std.specs.Prelude.{◌≡◌};
 
 // A crate has a function; this one says nothing of a plan.

@@ -31,7 +31,6 @@ use Rattle.taking.specs.Taken.{oldest_area, taken_area}
 use Rattle.model.specs.Calls.{Step, opening, reception, response, no_response, tick, take, fullness, call}
 use Rattle.history.specs.Calls.{area_after, stepped}
 use Rattle.history.proofs.Responses.{by_responded, by_silent}
-use Rattle.refines.specs.Shows.{Marked}
 use Rattle.refines.proofs.Worlds.{marks, is_marked}
 use Rattle.demands.specs.Demand1.{Stays}
 

@@ -1,14 +1,13 @@
 -- What an opening answers: refused exactly by the refusal table, then for a short area, and else it succeeds.
 use mathlib.Core.Path.{◌≡◌, refl, sym, ◌∙◌}
-use mathlib.Core.Logic.{◌⊎◌, inl, inr}
+use mathlib.Core.Logic.{inl, inr}
 use mathlib.Core.Bool.{Bool, true, false}
 use mathlib.Core.List.{List}
 use Prim.Native.Nat.{ℕ}
 use lib.Dec.{leb}
 use lib.ListN.{length}
 use borrow.Author.Tests.{le-leb, lt-leb, leb-true, leb-false}
-use Rattle.base.specs.Pick.{pick}
-use Rattle.base.proofs.Picks.{picks, passes, cases}
+use Rattle.base.proofs.Picks.{picks, passes}
 use Rattle.records.specs.Records.{records}
 use Rattle.plan.specs.declared.verdict.Reason.{Reason}
 use Rattle.plan.specs.declared.verdict.Verdict.{Verdict}
@@ -19,13 +18,12 @@ use Rattle.facts.specs.Good.{count_of}
 use Rattle.area.specs.Layout.{area_length}
 use Rattle.refusals.specs.Table.{Refuses, Unrefused}
 use Rattle.refusals.proofs.Exactly.{refused_exactly, good_exactly, good_unrefused}
-use Rattle.answers.specs.declared.Refusal.{Refusal}
 use Rattle.answers.specs.declared.Refusal.TheVariants.{Plan as BadPlan, ShortArea}
 use Rattle.answers.specs.declared.Opened.TheVariants.{Open, Refused}
 use Rattle.opening.specs.Opened.{opened_answer}
 use Rattle.model.proofs.Decide.{one_reason}
 use Rattle.history.specs.Calls.{open_answer}
-use Rattle.demands.specs.Demand1.{Succeeds, OpeningAnswers}
+use Rattle.demands.specs.Demand1.{OpeningAnswers}
 use Rattle.demands.proofs.NotOpened.{no}
 
 module _ (plan a : List ℕ) where

@@ -17,7 +17,7 @@ use Rattle.records.specs.declared.record.Id.TheVariants.{Standard, Extended}
 use Rattle.records.specs.declared.record.Record.{Record}
 use Rattle.records.specs.declared.record.Record.TheVariants.{Head, Node, Tx, Rx, Signal, Destination, Broken}
 use Rattle.records.specs.Ids.{behind_id}
-use Rattle.records.specs.Kinds.{form_of, length_of, tx_kind, rx_kind, kind_of, eight_at, tx_at, rx_at, tx_record, rx_record, fields_at}
+use Rattle.records.specs.Kinds.{stage_of, form_of, length_of, tx_kind, rx_kind, kind_of, eight_at, tx_at, rx_at, tx_record, rx_record, fields_at}
 use Rattle.records.specs.Records.{record_at, size_of, records_at, records}
 use Rattle.records.proofs.RecordLaws.{by_kind_byte, no_length, record_some, records_end, records_step}
 use Rattle.plan.proofs.TestLaws.{no_fault}
@@ -191,7 +191,7 @@ placed_whole last (Broken fault) p = no_fault fault p.known p.whole
 all_whole : (last : ℕ) (rs : List Record) → InPlace last rs → Each Whole rs
 unfolding InPlace Each
 all_whole last [] p = tt
-all_whole last (r ∷ rs) p = (placed_whole last r p.0, all_whole _ rs p.1)
+all_whole last (r ∷ rs) p = (placed_whole last r p.0, all_whole (stage_of r) rs p.1)
 
 pub encodes_good : EncodesGood
 encodes_good plan n t r b g = encodes_decoded plan b (all_whole 0 (records plan) (good_facts plan n t r g).0.place)

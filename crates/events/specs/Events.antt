@@ -4,7 +4,6 @@
 use Rattle.std.specs.Prelude.{ℕ, ◌+◌, ◌-◌, ◌≤◌, ◌≡◌, List, length, take, drop, replicate, leb, ltb, eqb}
 use Rattle.base.specs.Pick.{pick}
 use Rattle.base.specs.Numbers.{byte_at, two_at, four_at}
-use Rattle.records.specs.declared.record.Id.{Id}
 use Rattle.records.specs.declared.record.Id.TheVariants.{Standard, Extended}
 use Rattle.records.specs.Ids.{behind_id}
 use Rattle.events.specs.declared.Event.{Event}

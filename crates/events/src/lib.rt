@@ -1,4 +1,6 @@
 // The bench program's input: where the plan ends, the event at a place, and the payload that a reception or a response hands on.
+#![tactic(auto)]
+
 ghost use Rattle.std.specs.Prelude.{◌≡◌, ◌+◌, ◌≤◌, ◌<◌, length};
 ghost use Rattle.base.specs.Numbers.{byte_at, two_at};
 ghost use Rattle.text.specs.Text.{Put};
@@ -7,14 +9,14 @@ ghost use Rattle.events.specs.Events.{front_of, event_length, whole_event, event
 use records::record::Id;
 use text::put_word;
 
-#[derive(Drop)]
+#[derive(Clone, Copy)]
 pub enum Front {
     // the plan is the input from 2 to here, and the events begin here
     Plan { end: usize },
     Bad,
 }
 
-#[derive(Drop)]
+#[derive(Clone, Copy)]
 pub enum Event {
     // of kind 16 or, with a 29-bit ID, 19; the data stand by place: eight bytes behind the length, which follows the ID
     Reception {

@@ -75,9 +75,9 @@ module _ (n t r : ℕ) where
 
 -- ---- and where all passed the verdict is good
 
-passed-judged : (p : Progress) (sizes sets : List ℕ) (r : Record) → Passed p sizes sets r → judged p sizes sets r ≡ Go (after p r)
+passed_judged : (p : Progress) (sizes sets : List ℕ) (r : Record) → Passed p sizes sets r → judged p sizes sets r ≡ Go (after p r)
 unfolding judged placed need pick
-passed-judged p sizes sets r h =
+passed_judged p sizes sets r h =
     rw (h.follows, h.known, h.whole, h.stands, h.first, h.room, h.range, h.fits, h.order, h.inside, h.free, h.indicated, h.indicator)
 
 pub passes_good :
@@ -85,4 +85,4 @@ pub passes_good :
     → check_on p sizes sets rs ≡ Good (finally p.counts rs).nodes (finally p.counts rs).tx (finally p.counts rs).rx
 unfolding check_on Passes finally ended pick verdict_of after
 passes_good [] p sizes sets h = let m = h.1 in rw (h.0, ne_eqb p.number 0 (omega arith))
-passes_good (r ∷ rs) p sizes sets h = rw (passed-judged p sizes sets r h.0) (passes_good rs _ _ _ h.1)
+passes_good (r ∷ rs) p sizes sets h = rw (passed_judged p sizes sets r h.0) (passes_good rs _ _ _ h.1)

@@ -1,16 +1,14 @@
 -- The place of a stranger by the numbers of the IDs: what comes before an ID of a format is what the statement counts.
-use mathlib.Core.Path.{◌≡◌, refl, sym, subst, ◌∙◌}
+use mathlib.Core.Path.{◌≡◌, refl, sym, subst}
 use mathlib.Core.Logic.{◌⊎◌, inl, inr, ⊎_elim, ◌↔◌}
 use mathlib.Core.List.{List}
 use Prim.Native.Nat.{ℕ, ◌<◌}
 use Rattle.records.specs.declared.record.Id.{Id}
 use Rattle.records.specs.declared.record.Id.TheVariants.{Standard, Extended}
 use Rattle.records.specs.Ids.{Before}
-use Rattle.tables.specs.Reads.{row_at}
 use Rattle.model.specs.Plan.{said}
 use Rattle.model.specs.Words.{Those, Smaller}
-use Rattle.history.specs.Strangers.{Belongs}
-use Rattle.history.specs.Formats.{StandardRow, ExtendedRow, Many, BeforeStandard, BeforeExtended, PlacesByFormat}
+use Rattle.history.specs.Formats.{BeforeStandard, BeforeExtended, PlacesByFormat}
 use Rattle.history.proofs.Strangers.{strangers_belong}
 
 -- ---- what comes before an ID

@@ -1,4 +1,6 @@
 // What the calls make of an area, one after the other: theorems about the definitions of the calls, and no code of its own.
+#![tactic(auto)]
+
 ghost use Rattle.std.specs.Prelude.{◌≡◌};
 
 // A crate has a function; this one says nothing of a call.

@@ -1,4 +1,6 @@
-// The calls for C: numbers and slices in, a struct or a number out. include/gateway.h declares the same.
+// The calls for C: numbers and slices in, a struct or a number out. `interface_c` exports them, and include/gateway.h declares the same.
+#![tactic(auto)]
+
 mod structs;
 
 ghost use Rattle.std.specs.Prelude.{◌≡◌, ◌+◌, ◌≤◌, length, take, drop};
@@ -12,10 +14,12 @@ ghost use Rattle.taking.specs.Taken.{taken_answer, taken_area, taken_payload, fu
 ghost use Rattle.interface.specs.Structs.{opened_struct, received_struct, ticked_number, id_in, taken_struct, payload_struct, fullness_struct};
 ghost use Rattle.interface.specs.Back.{taken_of};
 
+pub use crate::structs::{
+    GatewayFullness, GatewayOpened, GatewayPayload, GatewayReceived, GatewayTaken,
+};
 use crate::structs::{
-    GatewayFullness, GatewayOpened, GatewayPayload, GatewayReceived, GatewayTaken, fullness_struct,
-    id_in, opened_struct, payload_struct, received_struct, responded_number, silence_number,
-    taken_struct, ticked_number,
+    fullness_struct, id_in, opened_struct, payload_struct, received_struct, responded_number,
+    silence_number, taken_struct, ticked_number,
 };
 use opening::open::open;
 use polling::respond::respond;
@@ -25,8 +29,7 @@ use taking::{fullness, take};
 use ticking::tick::tick;
 
 // Checks the plan, and fills the area.
-#[unsafe(no_mangle)]
-pub extern "C" fn gateway_open(plan: &[u8], area: &mut [u8]) -> GatewayOpened
+pub fn gateway_open(plan: &[u8], area: &mut [u8]) -> GatewayOpened
     ensures answer { result ≡ opened_struct (opened_answer (check_plan plan.now) (length area.old)) }
     ensures bytes { area.new ≡
         opened_area (opened_answer (check_plan plan.now) (length area.old)) plan.now area.old }
@@ -35,13 +38,7 @@ pub extern "C" fn gateway_open(plan: &[u8], area: &mut [u8]) -> GatewayOpened
 }
 
 // A frame that a CAN node received. The ID is as in SocketCAN: bit 31 set means a 29-bit ID.
-#[unsafe(no_mangle)]
-pub extern "C" fn gateway_receive(
-    area: &mut [u8],
-    node: usize,
-    id: u32,
-    payload: &[u8],
-) -> GatewayReceived
+pub fn gateway_receive(area: &mut [u8], node: usize, id: u32, payload: &[u8]) -> GatewayReceived
     ensures answer { result ≡ received_struct (received_answer area.old node (id_in id) payload.now) }
     ensures bytes { area.new ≡ received_area area.old node (id_in id) payload.now }
 {
@@ -49,14 +46,7 @@ pub extern "C" fn gateway_receive(
 }
 
 // A response to a request on a LIN node, with its checksum.
-#[unsafe(no_mangle)]
-pub extern "C" fn gateway_respond(
-    area: &mut [u8],
-    node: usize,
-    id: u32,
-    payload: &[u8],
-    checksum: u8,
-) -> u16
+pub fn gateway_respond(area: &mut [u8], node: usize, id: u32, payload: &[u8], checksum: u8) -> u16
     ensures answer { result ≡ responded_number (responded_answer area.old node id payload.now checksum) }
     ensures bytes { area.new ≡ responded_area area.old node id payload.now checksum }
 {
@@ -64,8 +54,7 @@ pub extern "C" fn gateway_respond(
 }
 
 // A request on a LIN node was not answered.
-#[unsafe(no_mangle)]
-pub extern "C" fn gateway_no_response(area: &mut [u8], node: usize, id: u32) -> u16
+pub fn gateway_no_response(area: &mut [u8], node: usize, id: u32) -> u16
     ensures answer { result ≡ silence_number (silent_answer area.old node id) }
     ensures bytes { area.new ≡ silent_area area.old node id }
 {
@@ -73,8 +62,7 @@ pub extern "C" fn gateway_no_response(area: &mut [u8], node: usize, id: u32) -> 
 }
 
 // One tick of the clock, with a byte of the report for each Rx frame.
-#[unsafe(no_mangle)]
-pub extern "C" fn gateway_tick(area: &mut [u8], report: &mut [u8]) -> u16
+pub fn gateway_tick(area: &mut [u8], report: &mut [u8]) -> u16
     ensures answer { result ≡ ticked_number (tick_answer area.old report.old) }
     ensures bytes { area.new ≡ ticked_area (tick_answer area.old report.old) area.old }
     ensures report { report.new ≡
@@ -84,8 +72,7 @@ pub extern "C" fn gateway_tick(area: &mut [u8], report: &mut [u8]) -> u16
 }
 
 // The oldest frame or request that waits on a node, which then waits no more.
-#[unsafe(no_mangle)]
-pub extern "C" fn gateway_take(area: &mut [u8], node: usize) -> GatewayTaken
+pub fn gateway_take(area: &mut [u8], node: usize) -> GatewayTaken
     ensures answer { result ≡ taken_struct (taken_answer area.old node) }
     ensures bytes { area.new ≡ taken_area area.old node }
 {
@@ -93,8 +80,7 @@ pub extern "C" fn gateway_take(area: &mut [u8], node: usize) -> GatewayTaken
 }
 
 // Where the payload of a frame that was taken stands in the area, and its size. `taken` is what the take answered.
-#[unsafe(no_mangle)]
-pub extern "C" fn gateway_payload(area: &[u8], taken: GatewayTaken) -> GatewayPayload
+pub fn gateway_payload(area: &[u8], taken: GatewayTaken) -> GatewayPayload
     ensures answer { result ≡ payload_struct (length area.now) (taken_of taken) }
     ensures part { take result.size (drop result.at area.now) ≡ taken_payload area.now (taken_of taken) }
     ensures inside { result.at + result.size ≤ length area.now }
@@ -103,8 +89,7 @@ pub extern "C" fn gateway_payload(area: &[u8], taken: GatewayTaken) -> GatewayPa
 }
 
 // How many bits of a Tx frame have an owner.
-#[unsafe(no_mangle)]
-pub extern "C" fn gateway_fullness(area: &[u8], tx: usize) -> GatewayFullness
+pub fn gateway_fullness(area: &[u8], tx: usize) -> GatewayFullness
     ensures answer { result ≡ fullness_struct (fullness_answer area.now tx) }
 {
     fullness_struct(fullness(area, tx))

@@ -12,7 +12,7 @@ use base::at_most;
 use records::record::{FORMAT_BIT, Id, TxNumber};
 
 #[repr(C)]
-#[derive(Drop)]
+#[derive(Clone, Copy)]
 pub struct GatewayOpened {
     pub number: u16,
     pub record: u16,
@@ -22,14 +22,14 @@ pub struct GatewayOpened {
 }
 
 #[repr(C)]
-#[derive(Drop)]
+#[derive(Clone, Copy)]
 pub struct GatewayReceived {
     pub number: u16,
     pub place: u16,
 }
 
 #[repr(C)]
-#[derive(Drop)]
+#[derive(Clone, Copy)]
 pub struct GatewayTaken {
     pub number: u16,
     pub kind: u8,
@@ -43,14 +43,14 @@ pub struct GatewayTaken {
 }
 
 #[repr(C)]
-#[derive(Drop)]
+#[derive(Clone, Copy)]
 pub struct GatewayPayload {
     pub at: u16,
     pub size: u16,
 }
 
 #[repr(C)]
-#[derive(Drop)]
+#[derive(Clone, Copy)]
 pub struct GatewayFullness {
     pub number: u16,
     pub bits: u16,

@@ -1,4 +1,6 @@
 // What goes over a LIN bus beside the data: the protected identifier and the checksum.
+#![tactic(auto)]
+
 ghost use Rattle.std.specs.Prelude.{◌≡◌, ◌<◌};
 ghost use Rattle.lin.specs.Identifier.{protected_of};
 ghost use Rattle.lin.specs.Checksum.{carried, checksum_of};

@@ -1,4 +1,6 @@
 // The bench program's lines: each function writes its line at the start of the lent buffer, and answers how long the line is.
+#![tactic(auto)]
+
 ghost use Rattle.std.specs.Prelude.{[], ◌∷◌, ◌+◌, ◌*◌, ◌≤◌, length};
 ghost use Rattle.text.specs.Text.{Put, LineIs};
 ghost use Rattle.lines.specs.Lines.{word_line, numbers_line, plan_line, rx_line, response_line, silence_line, tick_line};

@@ -11,6 +11,7 @@ use Rattle.records.specs.declared.record.Record.TheVariants.{Head, Node, Tx, Rx,
 use Rattle.area.specs.Layout.{area_length, order_byte, node_count_byte, can_count_byte, tx_count_bytes, rx_count_bytes, LongEnough, node, queue}
 use Rattle.opening.specs.Opened.{with_tx_timer, with_payload, with_frame, with_tx_place, with_tx, with_rx_timer, with_key, with_row, with_node_row, with_request, with_rx}
 use Rattle.opening.specs.Opened.{with_can, with_node, with_record, with_records, rings_before, with_rings, with_fullness}
+use Rattle.records.specs.Records.{size_of}
 
 pub record Alike (a b : List ℕ) : Type 0 where
   pub first : LongEnough a
@@ -113,7 +114,7 @@ Alike-record at (Broken fault) s = s
 pub Alike-records : (at : ℕ) (rs : List Record) {a b : List ℕ} → Alike a b → Alike (with_records at rs a) (with_records at rs b)
 unfolding with_records
 Alike-records at [] s = s
-Alike-records at (r ∷ rs) s = Alike-records _ rs (Alike-record at r s)
+Alike-records at (r ∷ rs) s = Alike-records (at + size_of r) rs (Alike-record at r s)
 
 Alike-before : (n : ℕ) {a b : List ℕ} → n ≤ 16 → Alike a b → rings_before a n ≡ rings_before b n
 unfolding rings_before

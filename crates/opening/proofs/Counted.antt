@@ -1,7 +1,7 @@
 -- The counts that the records leave: each node, CAN node, Tx frame and Rx frame is counted once.
 use Rattle.std.proofs.Common.{◌≡◌, ℕ, suc, ◌+◌, ◌%◌, ◌<◌, ◌≤◌, Bool, true, false, eqb, List, [], ◌∷◌, length, set, ◌∙◌, arith, length-set, get_or-set_other, get_or-set_same}
 use Rattle.base.specs.Pick.{pick}
-use Rattle.base.specs.Numbers.{byte_at, low_at, set_low}
+use Rattle.base.specs.Numbers.{byte_at, low_at}
 use Rattle.base.proofs.Ranges.{low_same}
 use Rattle.records.specs.declared.record.TxFrame.{TxFrame}
 use Rattle.records.specs.declared.record.RxFrame.{RxFrame}
@@ -12,6 +12,7 @@ use Rattle.area.specs.Layout.{order_byte, node_count_byte, can_count_byte, tx_co
 use Rattle.opening.specs.Opened.{next_tx, next_rx, with_tx_timer, with_payload, with_frame, with_tx_place, with_tx}
 use Rattle.opening.specs.Opened.{with_rx_timer, with_row, with_node_row, with_request, with_rx, with_can, with_node, with_record, with_records}
 use Rattle.opening.proofs.Kept.{same, Same-set, same_node, Same-tx, Same-rx}
+use Rattle.records.specs.Records.{size_of}
 
 -- what is counted from a to b, as long as it is in range; the rows are numbered from any number on
 pub record Counts (n c t : ℕ) (r : ℕ → ℕ) (a b : List ℕ) : Type 0 where
@@ -141,7 +142,7 @@ pub counts : (at : ℕ) (rs : List Record) (a : List ℕ) → rx_count_bytes + 2
 unfolding with_records with_record nodes_in cans_in tx_frames rows_from
 counts at [] a l = none_counts a l
 counts at (Head order ∷ rs) a l =
-    then (λ k. k) (head_counts a l order) (counts _ rs (set a order_byte order) (simp length-set l))
+    then (λ k. k) (head_counts a l order) (counts (at + size_of (Head order)) rs (set a order_byte order) (simp length-set l))
     (omega arith) (omega arith) (omega arith) (λ k. omega arith)
 counts at (Node body ∷ rs) a l =
     then (λ k. k) (node_counts body.of a l) (counts _ rs (with_node body.of a) (rw (node_length body.of a) l))

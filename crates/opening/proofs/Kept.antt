@@ -10,6 +10,7 @@ use Rattle.records.specs.declared.record.Record.TheVariants.{Head, Node, Tx, Rx,
 use Rattle.area.specs.Layout.{order_byte, node_count_byte, can_count_byte, tx_count_bytes, rx_count_bytes, nodes_start, plan_start, queue}
 use Rattle.opening.specs.Opened.{cleared, zeroed, laid, with_tx_timer, with_payload, with_frame, with_tx_place, with_tx, with_rx_timer, with_key, with_row, with_node_row}
 use Rattle.opening.specs.Opened.{with_request, with_rx, with_can, with_node, with_record, with_records, rings_before, with_rings, with_fullness}
+use Rattle.records.specs.Records.{size_of}
 
 pub record Same (P : ℕ → Type 0) (a b : List ℕ) : Type 0 where
   pub len : length b ≡ length a
@@ -160,7 +161,7 @@ module _
     pub Same-records : (at : ℕ) (rs : List Record) (a : List ℕ) → Same P a (with_records at rs a)
     unfolding with_records
     Same-records at [] a = same P a
-    Same-records at (r ∷ rs) a = Same-then P (Same-record at r a) (Same-records _ rs _)
+    Same-records at (r ∷ rs) a = Same-then P (Same-record at r a) (Same-records (at + size_of r) rs _)
 
 -- a queue's room does not stand where the starts are stored
 Rings-kept : (n : ℕ) (a : List ℕ) → Same (λ j. 2 ≤ j % 8) a (with_rings n a)

@@ -2,7 +2,7 @@
 use mathlib.Core.Path.{◌≡◌, refl, sym}
 use mathlib.Core.Bool.{Bool, true, false, not}
 use mathlib.Core.List.{List, []}
-use Prim.Native.Nat.{ℕ, ◌-◌}
+use Prim.Native.Nat.{ℕ}
 use Rattle.base.proofs.Apart.{differ}
 use Rattle.base.specs.Pick.{pick}
 use Rattle.records.specs.declared.record.Record.{Record}
@@ -16,7 +16,7 @@ use Rattle.records.specs.Kinds.{stage_of}
 use Rattle.records.specs.Reading.{follower_of}
 use Rattle.records.proofs.Variants.{by_destination}
 use Rattle.plan.specs.declared.verdict.Reason.{Reason}
-use Rattle.plan.specs.declared.verdict.Reason.TheVariants.{Short, Kind, Indicator}
+use Rattle.plan.specs.declared.verdict.Reason.TheVariants.{Indicator}
 use Rattle.plan.specs.declared.progress.Progress.{Progress}
 use Rattle.plan.specs.declared.progress.Next.{Next}
 use Rattle.plan.specs.declared.progress.Next.TheVariants.{Go, Refuse}

@@ -7,7 +7,7 @@ use base::wide;
 use bits::owners::{Joined, join};
 
 // The set with the claimed bits, or why the plan is refused.
-#[derive(Drop)]
+#[derive(Clone, Copy)]
 pub enum Claimed {
     Set(u64),
     Refused(Reason),

@@ -2,7 +2,7 @@
 use crate::verdict::Reason;
 
 // How many records of each kind were read.
-#[derive(Drop)]
+#[derive(Clone, Copy)]
 pub struct Counts {
     pub nodes: usize,
     // how many of the nodes are CAN nodes; the LIN nodes follow them
@@ -14,7 +14,7 @@ pub struct Counts {
 }
 
 // The Rx frame that is being read.
-#[derive(Drop)]
+#[derive(Clone, Copy)]
 pub struct RowSoFar {
     // the lowest key that the next Rx frame may have
     pub floor: usize,
@@ -30,7 +30,7 @@ pub struct RowSoFar {
     pub source: usize,
 }
 
-#[derive(Drop)]
+#[derive(Clone, Copy)]
 pub struct Progress {
     // the number of the next record
     pub number: usize,
@@ -41,7 +41,7 @@ pub struct Progress {
 }
 
 // What a record does: the check goes on, or the plan is refused.
-#[derive(Drop)]
+#[derive(Clone, Copy)]
 pub enum Next {
     Go(Progress),
     Refuse { reason: Reason, record: usize },

@@ -1,7 +1,7 @@
 // What the check of a plan answers.
 
 // Why a plan is refused, in the order of document 01's numbers 1 to 9.
-#[derive(Drop)]
+#[derive(Clone, Copy)]
 pub enum Reason {
     // 1: the input is empty, or the record runs past its end
     Short,
@@ -23,7 +23,7 @@ pub enum Reason {
     Indicator,
 }
 
-#[derive(Drop)]
+#[derive(Clone, Copy)]
 pub enum Verdict {
     Good { nodes: usize, tx: usize, rx: usize },
     Refused { reason: Reason, record: usize },

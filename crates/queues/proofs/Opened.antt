@@ -37,7 +37,7 @@ open_after {plan} o c = record { state = next_of (said plan) o.state c; held = (
 pub open_later : {plan a : List ℕ} → IsOpen plan a → (cs : List Call) → IsOpen plan (after_in a (map call cs))
 unfolding after_in stepped
 open_later o [] = o
-open_later o (c ∷ cs) = open_later (open_after o c) cs
+open_later {a = a} o (c ∷ cs) = open_later {a = area_after a c} (open_after o c) cs
 
 -- ---- any openings and calls
 

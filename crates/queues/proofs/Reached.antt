@@ -18,7 +18,7 @@ use Rattle.answers.specs.declared.Opened.TheVariants.{Open}
 use Rattle.answers.specs.declared.Taken.{Taken}
 use Rattle.tables.specs.Reads.{frames_on, rows_on, waiters_on}
 use Rattle.model.specs.Plan.{said}
-use Rattle.model.specs.Calls.{take, taken, World, closed, Gateway, the_model, Step, opening, call, opened, answered, reply_of, replies}
+use Rattle.model.specs.Calls.{take, taken, World, closed, Gateway, the_model, Step, opening, call, opened, answered, reply_of, replies, world_after}
 use Rattle.model.specs.Rules.{OfBytes}
 use Rattle.model.specs.Polling.{poll_steps, poll_replies, a_request, lin_frame, nothing_waits}
 use Rattle.model.proofs.Listing.{polling_answered}
@@ -50,7 +50,7 @@ replies_first : (g : Gateway) (w : World) (k : ℕ) (cs : List Step) → replies
 unfolding replies
 replies_first g w zero cs = refl
 replies_first g w (suc k) [] = refl
-replies_first g w (suc k) (c ∷ cs) = ap (λ xs. reply_of g w c ∷ xs) (replies_first g _ k cs)
+replies_first g w (suc k) (c ∷ cs) = ap (λ xs. reply_of g w c ∷ xs) (replies_first g (world_after g w c) k cs)
 
 taken_one : {x y : Taken} {p q : List ℕ} → answered (taken x p) ≡ answered (taken y q) → x ≡ y
 taken_one e = cc

@@ -12,7 +12,7 @@ use records::record::{Id, RxNumber};
 // tests nothing.
 const BEYOND: usize = 4294967296;
 
-#[derive(Drop)]
+#[derive(Clone, Copy)]
 pub enum Found {
     At(RxNumber),
     // no row has the ID; `place` of the node's rows have a smaller one

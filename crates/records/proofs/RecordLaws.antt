@@ -12,7 +12,7 @@ use Rattle.base.specs.Pick.{pick}
 use Rattle.base.specs.Numbers.{byte_at, two_at, four_at}
 use Rattle.base.proofs.Picks.{picks, passes, both, cases, by_eqb}
 use Rattle.records.specs.declared.record.Record.{Record}
-use Rattle.records.specs.declared.record.Record.TheVariants.{Head, Node, Tx, Rx, Signal, Destination, Broken}
+use Rattle.records.specs.declared.record.Record.TheVariants.{Head, Node, Signal, Destination, Broken}
 use Rattle.records.specs.declared.record.Id.{Id}
 use Rattle.records.specs.declared.record.Id.TheVariants.{Standard, Extended}
 use Rattle.records.specs.declared.record.Fault.{Fault}
@@ -20,7 +20,7 @@ use Rattle.records.specs.declared.record.Fault.TheVariants.{End, BadKind, Cut}
 use Rattle.records.specs.Kinds.{Form, form_of, length_of, stage_of_kind, tx_at, rx_at, tx_record, rx_record, fields_at, tx_kind, rx_kind, kind_of}
 use Rattle.records.specs.declared.decode.Step.{Step}
 use Rattle.records.specs.Reading.{step_at}
-use Rattle.records.specs.Records.{record_at, fault_size, size_of, records_from, records_at}
+use Rattle.records.specs.Records.{record_at, size_of, records_from, records_at}
 
 -- a byte that is no kind: the kinds are 1 to 8
 abbrev pub NoKind : ℕ → Type 0

@@ -255,7 +255,7 @@ fn fault_stage(fault: Fault) -> u8
 }
 
 // A record, and the place behind it.
-#[derive(Drop)]
+#[derive(Clone, Copy)]
 pub struct Step {
     pub found: Record,
     pub next: usize,

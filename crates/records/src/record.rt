@@ -3,28 +3,28 @@ ghost use Rattle.std.specs.Prelude.{◌≡◌, ◌^◌, ◌≤◌, ◌<◌};
 ghost use Rattle.records.specs.Ids.{plain_id, behind_id, key_of};
 
 // The number of an Rx frame, and that of a Tx frame: they count separate tables, and one never stands for the other.
-#[derive(Drop)]
+#[derive(Clone, Copy)]
 pub struct RxNumber(pub usize);
 
-#[derive(Drop)]
+#[derive(Clone, Copy)]
 pub struct TxNumber(pub usize);
 
 // What a node is: a CAN node, or one of a LIN bus whose master we are.
-#[derive(Drop)]
+#[derive(Clone, Copy)]
 pub enum NodeType {
     Can,
     Lin,
 }
 
 // What waits in a node's queue: a Tx frame, or the request for an Rx frame of a LIN node.
-#[derive(Drop)]
+#[derive(Clone, Copy)]
 pub enum Entry {
     Frame(TxNumber),
     Request(RxNumber),
 }
 
 // The eight bytes of an initial payload.
-#[derive(Drop)]
+#[derive(Clone, Copy)]
 pub struct Eight(
     pub u8,
     pub u8,
@@ -37,7 +37,7 @@ pub struct Eight(
 );
 
 // The ID of a frame, with its format: 11 bits, or the 29 bits of an extended frame. ID 32 in one format is not ID 32 in the other.
-#[derive(Drop)]
+#[derive(Clone, Copy)]
 pub enum Id {
     Standard(usize),
     Extended(usize),
@@ -80,7 +80,7 @@ impl Id {
     }
 }
 
-#[derive(Drop)]
+#[derive(Clone, Copy)]
 pub struct TxFrame {
     pub node: u8,
     pub id: Id,
@@ -92,7 +92,7 @@ pub struct TxFrame {
     pub payload: Eight,
 }
 
-#[derive(Drop)]
+#[derive(Clone, Copy)]
 pub struct RxFrame {
     pub node: u8,
     pub id: Id,
@@ -105,25 +105,25 @@ pub struct RxFrame {
     pub long: u8,
 }
 
-#[derive(Drop)]
+#[derive(Clone, Copy)]
 pub struct NodeBody {
     pub of: u8,
 }
 
-#[derive(Drop)]
+#[derive(Clone, Copy)]
 pub struct SignalBody {
     pub position: u8,
     pub size: u8,
 }
 
-#[derive(Drop)]
+#[derive(Clone, Copy)]
 pub struct DestinationBody {
     pub tx: TxNumber,
     pub position: u8,
 }
 
 // What follows an Rx frame: its signals, and their destinations.
-#[derive(Drop)]
+#[derive(Clone, Copy)]
 pub enum Follower {
     Signal(SignalBody),
     Destination(DestinationBody),
@@ -132,7 +132,7 @@ pub enum Follower {
 }
 
 // Why there is no whole record at a place.
-#[derive(Drop)]
+#[derive(Clone, Copy)]
 pub enum Fault {
     // the plan ends here
     End,
@@ -142,7 +142,7 @@ pub enum Fault {
     Cut { kind: u8 },
 }
 
-#[derive(Drop)]
+#[derive(Clone, Copy)]
 pub enum Record {
     Head { order: u8 },
     Node(NodeBody),

@@ -2,22 +2,20 @@
 use mathlib.Core.Path.{◌≡◌, refl, ap, ◌∙◌}
 use mathlib.Core.Bool.{true, false≢true}
 use mathlib.Core.List.{List}
-use Prim.Native.Nat.{ℕ, ◌%◌, ◌<◌}
-use native.Mathlib.Omega.{arith}
+use Prim.Native.Nat.{ℕ, ◌<◌}
 use lib.ListN.{length}
 use Rattle.records.specs.declared.record.NodeType.{NodeType}
 use Rattle.records.specs.declared.record.NodeType.TheVariants.{Can, Lin}
-use Rattle.records.specs.declared.record.RxFrame.{RxFrame}
 use Rattle.records.specs.Records.{records}
 use Rattle.records.specs.Nodes.{is_lin}
 use Rattle.plan.specs.Rows.{rows_of, nodes_in}
-use Rattle.area.specs.Layout.{type_on, rx_frame}
+use Rattle.area.specs.Layout.{type_on}
 use Rattle.ticking.specs.Tick.{rx_on_lin}
 use Rattle.tables.specs.Reads.{row_at}
 use Rattle.tables.proofs.RowFacts.{row_ranges}
 use Rattle.model.specs.Plan.{said, row_in, on_lin}
 use Rattle.model.specs.State.{State}
-use Rattle.refines.proofs.Held.{Held, below}
+use Rattle.refines.proofs.Held.{Held}
 
 pub lin_told : (x : NodeType) → is_lin x ≡ true → x ≡ Lin
 unfolding is_lin

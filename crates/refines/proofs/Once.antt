@@ -1,7 +1,7 @@
 -- Over any openings and calls after an opening, no frame and no request stands twice in a queue.
 use mathlib.Core.Path.{◌≡◌, sym, ◌∙◌}
 use mathlib.Core.Logic.{◌≢◌}
-use mathlib.Core.List.{List, [], ◌∷◌, ◌++◌}
+use mathlib.Core.List.{List, [], ◌∷◌}
 use Prim.Native.Nat.{ℕ, ◌<◌}
 use native.Mathlib.Omega.{arith}
 use lib.ListN.{length, get_or}
@@ -38,8 +38,8 @@ call_holds (holding plan s) c h = tt
 all_hold : (room : ℕ) (w : World) (cs : List Step) → Holds w → Holds (after (the_model room) w cs)
 unfolding after world_after the_model
 all_hold room w [] h = h
-all_hold room w (opening plan ∷ cs) h = all_hold room _ cs (opened_holds _ w plan h)
-all_hold room w (call c ∷ cs) h = all_hold room _ cs (call_holds w c h)
+all_hold room w (opening plan ∷ cs) h = all_hold room (open_next (open_answer room (check_plan plan)) w plan) cs (opened_holds _ w plan h)
+all_hold room w (call c ∷ cs) h = all_hold room (next_from w c) cs (call_holds w c h)
 
 begins : (a plan : List ℕ) (n t r : ℕ) → reply_in a (opening plan) ≡ opened (Open n t r)
     → Holds (world_after (the_model (length a)) closed (opening plan))

@@ -13,7 +13,7 @@ use Rattle.clock.proofs.Counters.{handled_divides}
 use Rattle.clock.specs.Counter.Prescaler.{one, two, ten, twenty}
 use Rattle.plan.specs.Tests.{is_prescaler}
 use Rattle.plan.specs.Rows.{rows_of, tx_of}
-use Rattle.facts.specs.Good.{Each, GoodPlan}
+use Rattle.facts.specs.Good.{GoodPlan}
 use Rattle.facts.proofs.ByNumber.{frame_ranges}
 use Rattle.tables.specs.Reads.{planned_tx, row_at}
 use Rattle.tables.proofs.RowFacts.{row_ranges}

@@ -9,7 +9,7 @@ use lib.ListN.{length}
 use Rattle.records.specs.Records.{records}
 use Rattle.plan.specs.Rows.{Source, copy, failure, width_of, Claim, tx_of, rows_of, order_in}
 use Rattle.facts.specs.Good.{Each}
-use Rattle.area.specs.Layout.{spot, order, tx_frame, claims}
+use Rattle.area.specs.Layout.{spot, order, tx_frame}
 use Rattle.area.specs.Claims.{accepted, sent_if, done_by, sent_by, done, all_done}
 use Rattle.area.proofs.ClaimLaws.{fitting-spot}
 use Rattle.reception.specs.Reception.{restarted, accepted_area}
@@ -66,7 +66,8 @@ module _ {plan : List ℕ} (lawful : Lawful (said plan)) where
       → Held plan (all_done o (accepted r payload) cs a) (put (said plan) s payload cs)
   unfolding all_done put Each
   Held-puts o r e payload [] h f g = h
-  Held-puts o r e payload (c ∷ cs) h f g = Held-puts o r e payload cs (Held-put o r e payload c f.0 h g.0) f.1 g.1
+  Held-puts {a = a} o r e payload (c ∷ cs) h f g =
+      Held-puts {a = done o (accepted r payload) a c} o r e payload cs (Held-put o r e payload c f.0 h g.0) f.1 g.1
 
   -- ---- the row starts again, and then the claims
 

@@ -38,7 +38,7 @@ module _ {plan : List ℕ} (lawful : Lawful (said plan)) where
       → Held plan (all_done o (expired r) cs a) (failed (said plan) s cs)
   unfolding all_done failed Each
   Held-failed o r e [] h f g = h
-  Held-failed {a} {s} o r e (c ∷ cs) h f g = Held-failed o r e cs (step h) f.1 g.1
+  Held-failed {a} {s} o r e (c ∷ cs) h f g = Held-failed {a = done o (expired r) a c} o r e cs (step h) f.1 g.1
     where
       go : {a : List ℕ} {s : State} → Held plan a s → (t : ℕ) → t ≡ c.tx → (z : Source) → c.at + width_of z ≤ 64
           → Held plan (sent_by o (expired r) a (done_by o (expired r) a (spot t c.at) z) t (spot t c.at) z) (failed_by (said plan) s c z)

@@ -2,7 +2,7 @@
 use mathlib.Core.Path.{◌≡◌, refl, sym, ap, ◌∙◌}
 use mathlib.Core.Logic.{◌≢◌}
 use mathlib.Core.List.{List, [], ◌∷◌, ◌++◌}
-use Prim.Native.Nat.{ℕ, ◌+◌, ◌≤◌, ◌<◌}
+use Prim.Native.Nat.{ℕ, ◌≤◌, ◌<◌}
 use native.Mathlib.Omega.{arith}
 use native.Mathlib.Decide.{ℕ_discrete}
 use lib.ListN.{length, get_or, set, length-set}
@@ -12,7 +12,7 @@ use Rattle.base.proofs.Picks.{picks, passes}
 use Rattle.records.specs.Records.{records}
 use Rattle.records.specs.Nodes.{frame}
 use Rattle.plan.specs.Rows.{tx_of, nodes_in}
-use Rattle.area.specs.Layout.{queues_start, tx_reloads_start, entries_start, payloads_start, queue, tx_timer, waits, payload}
+use Rattle.area.specs.Layout.{queues_start, tx_reloads_start, entries_start, payloads_start, tx_timer, waits}
 use Rattle.area.specs.Queue.{entry_of, queue_of, scheduled}
 use Rattle.area.proofs.Frame.{Same-scheduled}
 use Rattle.area.proofs.QueueLaws.{scheduled_waiting}

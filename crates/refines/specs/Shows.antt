@@ -12,7 +12,7 @@ use Rattle.answers.specs.declared.Opened.TheVariants.{Open}
 use Rattle.history.specs.Calls.{reply_in, replies_in, after_in}
 use Rattle.model.specs.State.{State, kept_of, queue_on}
 use Rattle.model.specs.Opening.{mapped}
-use Rattle.model.specs.Calls.{World, closed, holding, the_model, Step, opening, opened, answered, reply_of, replies, after}
+use Rattle.model.specs.Calls.{World, closed, holding, the_model, Step, opening, opened, reply_of, replies, after}
 use Rattle.model.specs.Rules.{OfBytes}
 
 -- ---- what an area shows

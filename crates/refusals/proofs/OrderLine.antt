@@ -14,7 +14,6 @@ use Rattle.records.specs.Ids.{Before, Possible, key_of}
 use Rattle.records.proofs.IdLaws.{key_before, key_four}
 use Rattle.plan.specs.Progress.{row_key}
 use Rattle.plan.specs.Tests.{in_range, rises}
-use Rattle.plan.proofs.TestLaws.{rx_ranges}
 use Rattle.facts.specs.Statements.{State}
 use Rattle.refusals.specs.Before.{RxBefore}
 use Rattle.refusals.specs.Fields.{Falls, NotAbove, lower_node, same_node}

@@ -1,7 +1,7 @@
 -- The order that the records leave is the head's: only a head is stored there, and it is the first record.
 use mathlib.Core.Path.{◌≡◌, refl, sym, ◌∙◌}
 use mathlib.Core.List.{List, [], ◌∷◌}
-use Prim.Native.Nat.{ℕ, ◌<◌, ◌≤◌}
+use Prim.Native.Nat.{ℕ, ◌<◌, ◌≤◌, ◌+◌}
 use native.Mathlib.Omega.{arith}
 use lib.ListN.{length}
 use lib.Seq.{get_or-set_same}
@@ -14,6 +14,7 @@ use Rattle.facts.proofs.Places.{later}
 use Rattle.area.specs.Layout.{order_byte, order}
 use Rattle.opening.specs.Opened.{with_record, with_records}
 use Rattle.opening.proofs.Kept.{same_node, Same-tx, Same-rx}
+use Rattle.records.specs.Records.{size_of}
 
 -- of a record: one that is no head leaves the order, and the first one makes it
 record Orders (r : Record) (a b : List ℕ) : Type 0 where
@@ -39,7 +40,7 @@ unfolding with_records InPlace
 order_kept at [] last a h place = refl
 order_kept at (r ∷ rs) last a h place =
     let l = later last r place.0 in
-    order_kept _ rs (stage_of r) _ l.kind place.1 ∙ (orders at r a).kept (l.body h)
+    order_kept (at + size_of r) rs (stage_of r) _ l.kind place.1 ∙ (orders at r a).kept (l.body h)
 
 pub order_records :
     (at : ℕ) (rs : List Record) (a : List ℕ) → InPlace 0 rs → order_byte < length a → order a ≡ 0 → order (with_records at rs a) ≡ order_in rs

@@ -32,6 +32,7 @@ use Rattle.opening.proofs.Counted.{one_more, counts}
 use Rattle.tables.specs.Reads.{frames_on, rows_on}
 use Rattle.tables.proofs.Spared.{Same-own, Same-tx}
 use Rattle.tables.proofs.RxSide.{leaves_node, leaves_rx_timer, leaves_row, leaves_node_row, leaves_rx}
+use Rattle.records.specs.Records.{size_of}
 
 -- where the room of node n is counted
 abbrev pub Room : ℕ → ℕ → Type 0
@@ -192,4 +193,4 @@ module _ (n : ℕ) (h : n < 16) (m c : ℕ) (few : m ≤ 16) (small : c < 256) w
   room_records at stage k [] a l most = omega (arith, alike {A = ℕ} (ltb n c) 0)
   room_records at stage k (r ∷ rs) a l most =
       let e = room_record at stage k r rs a l (omega arith) in
-      room_records _ (stage_of r) (next k r) rs (with_record at r a) (Left-rest m c stage at r rs a small l) (omega arith) ∙ e
+      room_records (at + size_of r) (stage_of r) (next k r) rs (with_record at r a) (Left-rest m c stage at r rs a small l) (omega arith) ∙ e

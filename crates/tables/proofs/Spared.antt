@@ -5,13 +5,11 @@ use Prim.Native.Nat.{ℕ, zero, suc, ◌+◌, ◌%◌, ◌<◌, ◌≤◌}
 use native.Mathlib.Nat.{add-zero}
 use native.Mathlib.Omega.{arith}
 use lib.ListN.{length}
-use Rattle.base.specs.Numbers.{set_low}
 use Rattle.records.specs.declared.record.Eight.{Eight}
 use Rattle.records.specs.declared.record.TxFrame.{TxFrame}
 use Rattle.records.specs.declared.record.RxFrame.{RxFrame}
 use Rattle.records.specs.declared.record.Record.{Record}
 use Rattle.records.specs.declared.record.Record.TheVariants.{Head, Node, Tx, Rx, Signal, Destination, Broken}
-use Rattle.base.specs.Pick.{pick}
 use Rattle.records.specs.Records.{size_of, eight_bytes}
 use Rattle.plan.specs.Rows.{tx_frames}
 use Rattle.area.specs.Layout.{tx_count_bytes, rx_count_bytes, queues_start, rx_reloads_start, tx_timers_start, rx_timers_start, waits_start}
@@ -125,7 +123,7 @@ pub along :
     → (at : ℕ) (rs : List Record) (a : List ℕ) → Q at rs a
 unfolding tx_frames with_record
 along Q none tx other at [] a = none at a
-along Q none tx other at (r ∷ rs) a = step r (along Q none tx other _ rs (with_record at r a))
+along Q none tx other at (r ∷ rs) a = step r (along Q none tx other (at + size_of r) rs (with_record at r a))
   where
     by : (r : Record) → ((rs : List Record) → tx_frames (r ∷ rs) ≡ tx_frames rs)
         → ((P : ℕ → Type 0) → NoRx P → (at : ℕ) (a : List ℕ) → Same P a (with_record at r a))

@@ -22,7 +22,7 @@ use Rattle.facts.proofs.GoodFacts.{good_facts}
 use Rattle.facts.proofs.Bounds.{good_bounds}
 use Rattle.facts.proofs.ByNumber.{good_types, cans_few, frame_ranges}
 use Rattle.area.specs.Layout.{order_byte, node_count_byte, can_count_byte, tx_count_bytes, full_start, plan_start, last_place, waiter_range, entry_count, LongEnough}
-use Rattle.area.specs.Layout.{queue, tx_timer, waits, full, tx_place, payload, spot, order, type_on, stored, tx_frame}
+use Rattle.area.specs.Layout.{queue, tx_timer, waits, full, payload, spot, order, type_on, tx_frame}
 use Rattle.area.specs.Queue.{ends_of}
 use Rattle.area.proofs.Frame.{Same, same_two}
 use Rattle.opening.specs.Opened.{blank, with_records, rings_before, with_rings, with_fullness, opened}

@@ -11,7 +11,6 @@ use Rattle.area.specs.declared.queue.Ends.{Ends}
 use Rattle.answers.specs.declared.Refusal.TheVariants.{NotOpen, NoNode, NoFrame}
 use Rattle.answers.specs.declared.Taken.{Taken}
 use Rattle.answers.specs.declared.Taken.TheVariants as taken
-use Rattle.answers.specs.declared.Fullness.{Fullness}
 use Rattle.answers.specs.declared.Fullness.TheVariants as fullness
 use Rattle.taking.specs.Taken.{entry_answer, oldest_answer, oldest_area, taken_answer, taken_area, fullness_answer}
 

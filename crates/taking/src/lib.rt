@@ -1,4 +1,6 @@
 // Take, the payload that a take hands back, and fullness.
+#![tactic(auto)]
+
 ghost use Rattle.std.specs.Prelude.{◌≡◌, ◌<◌};
 ghost use Rattle.records.specs.declared.record.Entry.TheVariants.{Frame, Request};
 ghost use Rattle.area.specs.Layout.{waiter_range, LongEnough, tx_frame};

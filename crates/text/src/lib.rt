@@ -1,4 +1,6 @@
 // Text put into a line: each function stores its text from a place on, and answers the place behind it.
+#![tactic(auto)]
+
 ghost use Rattle.std.specs.Prelude.{◌≡◌, [], ◌∷◌, ◌+◌, ◌*◌, ◌<◌, ◌≤◌, length};
 ghost use Rattle.text.specs.Text.{glyph, decimal, hex_byte, hex, spaced, each, Put};
 

@@ -1,4 +1,6 @@
 // The tick: Tx timers first, then Rx timers with the report, and last the counter.
+#![tactic(auto)]
+
 pub mod expiry;
 mod rx;
 pub mod tick;

@@ -1,9 +1,0 @@
--- `interface::structs::checksum_in` meets its contract: by the variant.
-use borrow.Author.Rules.{rules}
-use Rattle.interface.specs.Structs.{checksum_in}
-use Rattle.interface.proofs.structs.checksum_in.Statement.{statement}
-use Rattle.interface.proofs.structs.checksum_in.Tie as tie
-
-pub checksum-in-spec : {M : Type 1} → statement M
-unfolding checksum_in
-checksum-in-spec = tie.close (tie.spec (λ c. search rules) (λ c. search rules) (λ c. rw c.enum_told.given.1) (λ c. rw c.before.framing.given.1))

@@ -1,0 +1,18 @@
+-- `opening::queues::with_fullness` meets its contract: after t turns the first t frames have their counts.
+use Rattle.std.proofs.Common.{refl, le_antisymm, add-one, arith}
+use Rattle.opening.specs.Opened.{with_fullness}
+use Rattle.opening.proofs.queues.with_fullness.Goals as goal
+
+pub loop-t-init : goal.loop-t-init
+unfolding with_fullness
+loop-t-init c = (refl, omega arith, refl)
+
+pub overflow_cast-owned : goal.overflow_cast-owned
+overflow_cast-owned c = omega arith
+
+pub loop-t-preserved : goal.loop-t-preserved
+unfolding with_fullness
+loop-t-preserved c = (rw add-one cc, omega arith, cc)
+
+pub returns : goal.returns
+returns c = let e = le_antisymm c.loop-t.invariant.1 c.loop-t-test.false in cc

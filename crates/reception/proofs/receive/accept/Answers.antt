@@ -1,0 +1,12 @@
+-- `receive::accept` meets its contract: the row starts again, the failure bit is written, and then the walk.
+use mathlib.Core.Path.{◌∙◌}
+use Rattle.reception.proofs.WalkLaws.{walked_accepted}
+use Rattle.reception.proofs.receive.accept.Goals as goal
+
+pub returns : goal.returns
+returns c =
+    let v = c.args in
+    let place = c.requires.1 in
+    (rw place at c.walk.ensures)
+    ∙ walked_accepted v.area.now v.r.0 v.payload.now _ _ c.requires.0 c.restart.ensures
+    (rw place at c.write_failure.ensures.bytes) (rw place at c.write_failure.ensures.narrow)

@@ -1,0 +1,19 @@
+-- `ticking::rx::rx_expire` meets its contract. The loop's invariant: of the first `i` timers those that are marked have expired, with their bytes in
+-- the report.
+use mathlib.Core.Path.{refl}
+use native.Mathlib.Nat.{le_antisymm}
+use native.Mathlib.Numerals.{add-one}
+use native.Mathlib.Omega.{arith}
+use Rattle.ticking.specs.Sixteen.{each_marked, marked_report}
+use Rattle.ticking.proofs.rx.rx_expire.Goals as goal
+
+pub loop-i-init : goal.loop-i-init
+unfolding each_marked marked_report
+loop-i-init c = (refl, refl, omega arith, refl, refl)
+
+pub loop-i-preserved : goal.loop-i-preserved
+unfolding each_marked marked_report
+loop-i-preserved c = (rw add-one cc, rw add-one cc, omega arith, cc, cc)
+
+pub returns : goal.returns
+returns c = let e = le_antisymm c.loop-i.invariant.2 c.loop-i-test.false in record { bytes = cc; report = cc }

@@ -1,5 +1,5 @@
 /*
- * The gateway's calls from C. Link with libinterface.a, which `rt staticlib interface` proves and writes to target/staticlib/.
+ * The gateway's calls from C. Link with libinterface.a, which `tools/prove interface_c` proves and writes to target/staticlib/.
  *
  * A slice is two arguments: a pointer and how many bytes stand there. The pointer is never NULL, also where the count is 0; what is lent to one
  * call does not overlap; and nothing else reads or writes it while the call runs. Between the calls the caller may read the area, and writes

@@ -20,7 +20,7 @@ for page in glob.glob('docs/*.md'):
 # the identifiers of docs/LIN.md are those that are proved, and its sums are right
 page = open('docs/LIN.md', encoding='utf-8').read()
 rows = [re.search(rf'^\| {name} \| (.*) \|$', page, re.M)[1].split(' | ') for name in ('ID', 'protected identifier')]
-proved = re.findall(r'protectedOf 0x(\w\w) ≡ 0x(\w\w)', open('crates/lin/specs/Statements.antt', encoding='utf-8').read())
+proved = re.findall(r'protected_of 0x(\w\w) ≡ 0x(\w\w)', open('crates/lin/specs/Statements.antt', encoding='utf-8').read())
 if list(zip(*rows)) != [tuple(map(str.upper, pair)) for pair in proved]:
     wrong.append('docs/LIN.md: the protected identifiers are not those of KnownIdentifiers')
 sums = re.findall(r'^\| ((?:[0-9A-F]{2},? ?)+).*? \| (.*) \| FF − (..) = (..) \|$', page, re.M)

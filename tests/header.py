@@ -6,7 +6,7 @@ import sys
 
 NUMBERS = {'usize': 'size_t', 'u8': 'uint8_t', 'u16': 'uint16_t', 'u32': 'uint32_t', 'u64': 'uint64_t', 'bool': 'bool'}
 FILES = {
-    'source': 'crates/interface/src/lib.rt',
+    'source': 'crates/interface_c/src/lib.rt',
     'structs': 'crates/interface/src/structs.rt',
     'fields': 'crates/interface/specs/Structs.antt',
     'header': 'include/gateway.h',
@@ -51,11 +51,11 @@ def c_arguments(argument):
 def exported(source):
     source = re.sub(r'//.*', '', source)
     found = {}
-    for name, arguments, result in re.findall(r'#\[no_mangle\]\s*pub extern "C" fn (\w+)\(([^)]*)\)\s*->\s*(\w+)', source):
+    for name, arguments, result in re.findall(r'#\[unsafe\(no_mangle\)\]\s*pub extern "C" fn (\w+)\(([^)]*)\)\s*->\s*(\w+)', source):
         split = [a for a in re.split(r',\s*(?![^\[]*\])', arguments.strip()) if a.strip()]
         found[name] = (c_type(result), [c for a in split for c in c_arguments(a)])
-    if len(found) != source.count('#[no_mangle]'):
-        sys.exit(f'tests/header.py: {source.count("#[no_mangle]")} functions are exported, and {len(found)} were read')
+    if len(found) != source.count('#[unsafe(no_mangle)]'):
+        sys.exit(f'tests/header.py: {source.count("#[unsafe(no_mangle)]")} functions are exported, and {len(found)} were read')
     return found
 
 
@@ -63,7 +63,7 @@ def structs_laid_out(source):
     """the structs that are laid out as C does, each with its fields"""
     source = re.sub(r'//.*', '', source)
     found = {}
-    for name, fields in re.findall(r'#\[repr\(C\)\]\s*pub struct (\w+) \{([^}]*)\}', source):
+    for name, fields in re.findall(r'#\[repr\(C\)\]\s*(?:#\[derive\([^)]*\)\]\s*)?pub struct (\w+) \{([^}]*)\}', source):
         found[lower(name)] = [f'{c_type(kind)} {field}' for field, kind in re.findall(r'pub (\w+): (\w+),', fields)]
     return found
 
@@ -92,12 +92,12 @@ def numbers_said(texts):
         said['GATEWAY_REFUSED_' + upper(name)] = int(number)
     for name, number in re.findall(r'^refusal_number (\w+) = (\d+)$', texts['answers'], flags=re.M):
         said['GATEWAY_REFUSED_' + upper(name)] = int(number)
-    for name, number in re.findall(r'^(?:received|responded)Number \(?(?:responded\.)?(\w+)[^=]* = (\d+)$', texts['answers'], flags=re.M):
+    for name, number in re.findall(r'^(?:received|responded)_number \(?(?:responded\.)?(\w+)[^=]* = (\d+)$', texts['answers'], flags=re.M):
         say('GATEWAY_' + upper(name), number)
     said['GATEWAY_AREA_SIZE'] = int(re.search(r'^shortest_area = (\d+)$', texts['shortest'], flags=re.M).group(1))
     said['GATEWAY_REPORT_SIZE'] = int(re.search(r'^rx_count a = at_most (\d+) \(low_at a rx_count_bytes\)$', texts['layout'], flags=re.M).group(1))
     said['GATEWAY_EXTENDED'] = int(re.search(r'^format_bit = (\d+)$', texts['ids'], flags=re.M).group(1))
-    for name, start in ('NOTHING', 'nothingTaken number'), ('FRAME', r'takenStruct \(taken\.Frame x\)'), ('REQUEST', r'takenStruct \(taken\.Request x\)'):
+    for name, start in ('NOTHING', 'nothing_taken number'), ('FRAME', r'taken_struct \(taken\.Frame x\)'), ('REQUEST', r'taken_struct \(taken\.Request x\)'):
         said['GATEWAY_' + name] = int(re.search(rf'^{start} =\s+record \{{\s+number = \w+;\s+kind = (\d+);', texts['fields'], flags=re.M).group(1))
     timeouts = re.search(r'^expired_report a r = pick \(.*\) (\d) (\d)$', texts['tick'], flags=re.M)
     said['GATEWAY_LONG_TIMEOUT'], said['GATEWAY_SHORT_TIMEOUT'] = int(timeouts.group(1)), int(timeouts.group(2))
@@ -168,14 +168,14 @@ PLANTED = [
     ('two fields exchanged in the source', 'structs', '    pub at: u16,\n    pub size: u16,\n', '    pub size: u16,\n    pub at: u16,\n'),
     ('another width of a field in the source', 'structs', '    pub id: u32,\n', '    pub id: u64,\n'),
     ('a field missing in the source', 'structs', '    pub waiting: u16,\n', ''),
-    ('a struct that is not laid out as C does', 'structs', '#[repr(C)]\npub struct GatewayPayload', 'pub struct GatewayPayload'),
-    ('another area size in the definitions', 'shortest', 'shortestArea = 32768', 'shortestArea = 32767'),
-    ('another bit for the format in the definitions', 'ids', 'formatBit = 2147483648', 'formatBit = 1073741824'),
+    ('a struct that is not laid out as C does', 'structs', '#[repr(C)]\n#[derive(Clone, Copy)]\npub struct GatewayPayload', '#[derive(Clone, Copy)]\npub struct GatewayPayload'),
+    ('another area size in the definitions', 'shortest', 'shortest_area = 32768', 'shortest_area = 32767'),
+    ('another bit for the format in the definitions', 'ids', 'format_bit = 2147483648', 'format_bit = 1073741824'),
     ('another number of a kind in the definitions', 'fields', 'kind = 1;', 'kind = 2;'),
     ('another number of a request in the definitions', 'fields', 'kind = 2;', 'kind = 1;'),
-    ('an answer of two numbers in the definitions', 'answers', 'respondedNumber responded.TooShort = 2', 'respondedNumber responded.TooShort = 1'),
-    ('a timeout of two numbers in the definitions', 'answers', 'silenceNumber silence.Long = 2', 'silenceNumber silence.Long = 1'),
-    ('another number in the definitions', 'answers', 'refusalNumber NotOpen = 11', 'refusalNumber NotOpen = 12'),
+    ('an answer of two numbers in the definitions', 'answers', 'responded_number responded.TooShort = 2', 'responded_number responded.TooShort = 1'),
+    ('a timeout of two numbers in the definitions', 'answers', 'silence_number silence.Long = 2', 'silence_number silence.Long = 1'),
+    ('another number in the definitions', 'answers', 'refusal_number NotOpen = 11', 'refusal_number NotOpen = 12'),
 ]
 
 texts = {what: open(path, encoding='utf-8').read() for what, path in FILES.items()}

@@ -16,9 +16,10 @@ trap 'rm -rf "$copy"' EXIT
 mkdir -p "$copy/crates/bench/src" "$copy/bin" && cp -r tools "$copy" && touch -d '1 hour ago' "$copy/crates/bench/src/main.rt" || exit 1
 cat >"$copy/bin/rt" <<'END'
 #!/bin/sh
-for i in 1 2 3; do seq -f "fn number_%g: proved" 100; echo "rt: crate_$i proved (5 s)"; done
-[ "$STATUS" -eq 0 ] || { echo "rt: $2 is not proved" >&2; exit "$STATUS"; }
-mkdir -p target/bin && { [ -f "target/bin/$2" ] || echo program >"target/bin/$2"; }
+for i in 1 2 3; do echo "rt: chose --jobs 2 for crate_$i"; seq -f "fn number_%g: proved" 100; done
+name=$(basename "$PWD")
+[ "$STATUS" -eq 0 ] || { echo "rt: $name is not proved" >&2; exit "$STATUS"; }
+mkdir -p out && { [ -f "out/$name" ] || { printf '#!/bin/sh\n' >"out/$name"; chmod +x "out/$name"; }; }
 END
 chmod +x "$copy/bin/rt"
 # proves STATUS LINES TOOL ..: with rt ending so, the tool ends with 0 or 1 and tells as many lines.
@@ -36,10 +37,10 @@ grep -qF "$copy/$log" "$copy/told" && grep -q 'bench is not proved' "$copy/told"
 printf '0100\nevents\n' >"$copy/plan.txt"
 proves 3 4 tools/bench plan.txt
 proves 0 2 tools/run --command bench
-grep -q ' proved crate_1 crate_2 crate_3$' "$copy/told" || fail "no progress was told: $(cat "$copy/told")"
+grep -q ' proving crate_1 crate_2 crate_3$' "$copy/told" || fail "no progress was told: $(cat "$copy/told")"
 [ "$(wc -l <"$copy/$log")" -eq 303 ] || fail "the log is not whole"
 proves 0 0 tools/run --command bench
-touch -d '1 hour ago' "$copy/target/bin/bench"; touch "$copy/crates/bench/src/main.rt"
+touch -d '1 hour ago' "$copy/crates/bench/out/bench"; touch "$copy/crates/bench/src/main.rt"
 proves 0 2 tools/run --command bench
 proves 0 0 tools/run --command bench
 mkdir "$copy/no-rt" && ln -s "$(command -v dirname)" "$copy/no-rt"

@@ -11,7 +11,7 @@ use Rattle.bits.specs.Word.{fitting, Bits}
 use Rattle.bits.specs.Payload.{copied, differs}
 use Rattle.bits.proofs.SignalLaws.{copied_parts, differs_parts}
 use Rattle.bits.proofs.WordLaws.{piece_bits}
-use Rattle.bits.proofs.Fitting.{fitting_is}
+use Rattle.bits.proofs.Fitting.{fitting-le, fitting_is}
 use Rattle.bits.proofs.PayloadLaws.{Bytes}
 use Rattle.bits.proofs.payload.copy_signal.Goals.{then-put_signal, else-put_signal}
 use Rattle.bits.proofs.payload.copy_signal.Goals as goal
@@ -24,11 +24,11 @@ pub put_signal-requires : goal.put_signal-requires
 unfolding signal_at
 put_signal-requires c = let v = c.args in
     let l = c.loop-k in
-    let n = c.at_most-n.result in
-    let room : (v.q + l.k) % 8 + n ≤ 64 = omega (arith, c.at_most-n.ensures.1) in
-    let fits : v.q + l.k + n ≤ 8 * length l.kept =
+    let fits : v.q + l.k + c.at_most-n.result ≤ 8 * length l.kept =
     omega (arith, c.at_most-n.ensures.0, at_most_fewer (56 - (v.q + l.k) % 8) (v.size - l.k)) in
-    rw c.take_signal-piece.ensures (refl, rw (fitting_is (v.q + l.k) n room) fits)
+    let piece = c.take_signal-piece in
+    let stored = rw piece.ensures at (fitting-le (v.q + l.k) piece.result.size) in
+    rw piece.ensures (refl, omega (arith, stored, fits))
 
 pub overflow_add-k : goal.overflow_add-k
 overflow_add-k c = let v = c.args in

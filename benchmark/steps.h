@@ -1,4 +1,4 @@
-// Counts the instructions of a call: the processor's single-step flag makes a signal after each, on a processor and under an emulator alike.
+// Counts the instructions of a call: the processor's single-step flag makes a signal after each.
 #pragma once
 #include "bare.h"
 

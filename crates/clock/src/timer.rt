@@ -2,14 +2,14 @@
 ghost use Rattle.std.specs.Prelude.{◌≡◌};
 ghost use Rattle.clock.specs.Timer.{lowered, stepped, expires};
 
-#[derive(Drop)]
+#[derive(Clone, Copy)]
 pub struct Timer {
     pub reload: u8,
     pub count: u8,
 }
 
 // The answer to a caller whose timer is no record: the new count, and whether it expired.
-#[derive(Drop)]
+#[derive(Clone, Copy)]
 pub struct Stepped {
     pub count: u8,
     pub expired: bool,

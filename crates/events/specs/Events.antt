@@ -70,7 +70,7 @@ event_size End = 0
 abbrev pub Within : List ℕ → ℕ → Event → Type 0
 Within input at e = at ≤ length input → at + event_size e ≤ length input
 
--- the payload that a reception or a response hands on whose length stands at a place: as many of the eight data bytes behind it says. "A length above
+-- the payload that a reception or a response hands on whose length stands at a place: as many of the eight data bytes behind it as it says. "A length above
 -- 8 is handed on as nine zero bytes, so that 13 is met."
 unfoldable pub payload_at : List ℕ → ℕ → List ℕ
 payload_at input at = pick (ltb 8 (byte_at input at)) (replicate 9 0) (take (byte_at input at) (drop (at + 1) input))

@@ -73,7 +73,7 @@ no_more c r miss = (miss.by _ _, miss.by _ _)
 
 -- ---- where a node passes its test
 
--- there are at most as many CAN nodes
+-- there are at most as many CAN nodes as nodes
 more : (c : Counts) (r : Record) → c.can ≤ c.nodes → (counted c r).can ≤ (counted c r).nodes
 unfolding counted
 more c r l =

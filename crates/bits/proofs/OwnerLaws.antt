@@ -2,6 +2,7 @@
 use mathlib.Core.Path.{◌≡◌, refl, sym, ap, ◌∙◌}
 use mathlib.Core.Logic.{◌≢◌, ◌↔◌, ⊎_elim}
 use mathlib.Core.Bool.{Bool, true, false, ◌||◌, true≢false, false≢true}
+use Rattle.std.specs.Prelude.{Some, None}
 use Prim.Native.Nat.{ℕ, zero, suc, ◌+◌, ◌/◌, ◌%◌, ◌^◌, ◌≤◌, ◌<◌}
 use native.Mathlib.Nat.{pow-suc}
 use native.Mathlib.Decide.{ℕ_discrete}
@@ -13,7 +14,6 @@ use Rattle.base.proofs.Apart.{differ}
 use Rattle.bits.specs.Digit.{digit, set_digit}
 use Rattle.base.proofs.Picks.{picks, passes}
 use Rattle.bits.specs.Owners.{owners, owned, clash, joined}
-use Rattle.bits.specs.declared.owners.Joined.TheVariants.{Set, Clash}
 use Rattle.bits.proofs.DigitLaws.{digit-zero, digit-suc, digit-lt, digit_set_same, digit_set_other, set_digit-lt}
 use Rattle.bits.proofs.CopyLaws.{either, neither, or_right}
 
@@ -70,21 +70,21 @@ module _ (set p : ℕ) where
 -- ---- what joining answers
 
 module _ (set p s : ℕ) where
-  pub joined-clash : joined set p s ≡ Clash → clash set p s ≡ true
+  pub joined-clash : joined set p s ≡ None → clash set p s ≡ true
   unfolding joined
   joined-clash e = at (clash set p s) refl
     where
       at : (b : Bool) → clash set p s ≡ b → clash set p s ≡ true
       at true c = c
-      at false c = absurd (differ (cc (sym (passes _ Clash (Set (owned set p s)) c) ∙ e)))
+      at false c = absurd (differ (cc (sym (passes _ None (Some (owned set p s)) c) ∙ e)))
 
-  pub joined-set : (n : ℕ) → joined set p s ≡ Set n → (clash set p s ≡ false) × (n ≡ owned set p s)
+  pub joined-set : (n : ℕ) → joined set p s ≡ Some n → (clash set p s ≡ false) × (n ≡ owned set p s)
   unfolding joined
   joined-set n e = at (clash set p s) refl
     where
       at : (b : Bool) → clash set p s ≡ b → (clash set p s ≡ false) × (n ≡ owned set p s)
-      at false c = let x = sym (passes _ Clash (Set (owned set p s)) c) ∙ e in (c, (cc))
-      at true c = absurd (differ (cc (sym (picks _ Clash (Set (owned set p s)) c) ∙ e)))
+      at false c = let x = sym (passes _ None (Some (owned set p s)) c) ∙ e in (c, (cc))
+      at true c = absurd (differ (cc (sym (picks _ None (Some (owned set p s)) c) ∙ e)))
 
 -- ---- the count
 

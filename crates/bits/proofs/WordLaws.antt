@@ -1,14 +1,16 @@
 -- Laws of eight bytes as a number. Bit t of the bytes is one digit of their number, in either order; so is each bit that is taken from them or laid
 -- into them.
-use mathlib.Core.Path.{◌≡◌, refl, sym, ◌∙◌}
+use mathlib.Core.Path.{◌≡◌, refl, sym, ap, ◌∙◌}
 use mathlib.Core.Logic.{◌≢◌}
-use mathlib.Core.List.{List}
+use mathlib.Core.List.{List, ◌∷◌, ◌++◌}
 use Prim.Native.Nat.{ℕ, zero, suc, ◌+◌, ◌-◌, ◌*◌, ◌/◌, ◌%◌, ◌^◌, ◌≤◌, ◌<◌}
 use native.Mathlib.Nat.{add-zero, zero-add, suc-add, add-mul, mul_assoc, mul-mod_left, div-eq_of_lt}
 use native.Mathlib.Decide.{dec_lt, ℕ_discrete}
 use native.Mathlib.Omega.{arith}
 use lib.Pow.{shl_lt, ones_lt, ones_split, high, low, pow-add, pow_mono}
-use lib.ListN.{length, get_or, get_or-eq_default}
+use Rattle.std.specs.Int.{from_le_bytes, swap_bytes, w64}
+use lib.ListN.{length, take, drop, get_or, get_or-eq_default}
+use Rattle.std.proofs.lemmas.List.{get_or-drop, get_or-take, length-drop, length-append}
 use Rattle.bits.specs.Digit.{digit}
 use Rattle.bits.specs.Payload.{digit_of, bit_at}
 use Rattle.bits.specs.Word.{place_of, Bits, low_first, reversed, from_bit, in_bytes, ones_of}
@@ -182,19 +184,34 @@ ones_of-lt (suc order) s h = omega (arith, ones_lt s, pow_mono h)
 
 -- ---- as code makes them
 
-pub eight_low :
-    (b : List ℕ) (at : ℕ) → low_first 8 b at
-    ≡ ((((((get_or b (at + 7) 0 * 256 + get_or b (at + 6) 0) * 256 + get_or b (at + 5) 0) * 256 + get_or b (at + 4) 0) * 256 + get_or b (at + 3) 0) * 256
-    + get_or b (at + 2) 0) * 256 + get_or b (at + 1) 0) * 256 + get_or b at 0
+pub swapped : (number : ℕ) → swap_bytes w64 number ≡ reversed 8 number
+unfolding reversed
+swapped number = omega arith
+
+pub eight_low : (bytes eight : List ℕ) (at : ℕ) → eight ≡ take 8 (drop at bytes) → from_le_bytes w64 eight ≡ low_first 8 bytes at
 unfolding low_first
-eight_low b at =
+eight_low bytes eight at e =
+    let each : (i : ℕ) → i < 8 → get_or eight i 0 ≡ get_or bytes (at + i) 0 = λ i h. rw e (get_or-take 8 (drop at bytes) i 0 h ∙ get_or-drop at bytes i 0) in
+    let one : at + 0 ≡ at = omega arith in
     let two : at + 1 + 1 ≡ at + 2 = omega arith in
     let three : at + 2 + 1 ≡ at + 3 = omega arith in
     let four : at + 3 + 1 ≡ at + 4 = omega arith in
     let five : at + 4 + 1 ≡ at + 5 = omega arith in
     let six : at + 5 + 1 ≡ at + 6 = omega arith in
     let seven : at + 6 + 1 ≡ at + 7 = omega arith in
-    rw (two, three, four, five, six, seven) (omega arith)
+    let first = rw one at (each 0 (omega arith)) in
+    rw (two, three, four, five, six, seven)
+    (omega (
+      arith,
+      first,
+      each 1 (omega arith),
+      each 2 (omega arith),
+      each 3 (omega arith),
+      each 4 (omega arith),
+      each 5 (omega arith),
+      each 6 (omega arith),
+      each 7 (omega arith),
+    ))
 
 -- past the end there are only zeros
 none_left : (n : ℕ) (b : List ℕ) (at : ℕ) → length b ≤ at → low_first n b at ≡ 0
@@ -204,10 +221,45 @@ none_left (suc n) b at h =
     let past : get_or b at 0 ≡ 0 = get_or-eq_default b 0 h in
     rw (past, none_left n b (at + 1) (omega arith))
 
-pub last_low : (n m : ℕ) (b : List ℕ) (at : ℕ) → length b ≤ at + n → low_first (n + m) b at ≡ low_first n b at
+low_first_past : (n m : ℕ) (b : List ℕ) (at : ℕ) → length b ≤ at + n → low_first (n + m) b at ≡ low_first n b at
 unfolding low_first
-last_low zero m b at h = rw zero-add (none_left m b at (omega arith))
-last_low (suc n) m b at h = rw (suc-add, last_low n m b (at + 1) (omega arith))
+low_first_past zero m b at h = rw zero-add (none_left m b at (omega arith))
+low_first_past (suc n) m b at h = rw (suc-add, low_first_past n m b (at + 1) (omega arith))
+
+-- a byte in front of the others
+pub Bytes-more : (byte : ℕ) (bytes : List ℕ) → byte < 256 → Bytes bytes → Bytes (byte ∷ bytes)
+Bytes-more byte bytes h b zero = h
+Bytes-more byte bytes h b (suc k) = b k
+
+pub low_first-more : (n at byte : ℕ) (bytes : List ℕ) → low_first n (byte ∷ bytes) (suc at) ≡ low_first n bytes at
+unfolding low_first
+low_first-more zero at byte bytes = refl
+low_first-more (suc n) at byte bytes =
+    let i : suc at + 1 ≡ suc (at + 1) = omega arith in
+    rw (i, low_first-more n (at + 1) byte bytes)
+
+low_first-drop : (n at k : ℕ) (bytes : List ℕ) → low_first n (drop at bytes) k ≡ low_first n bytes (at + k)
+unfolding low_first
+low_first-drop zero at k bytes = refl
+low_first-drop (suc n) at k bytes =
+    let i : at + (k + 1) ≡ at + k + 1 = omega arith in
+    rw (get_or-drop at bytes k 0, low_first-drop n at (k + 1) bytes, i)
+
+-- the last bytes, fewer than eight: where one is left the number has room for it
+pub last_room : (left read bytes : List ℕ) (at : ℕ) → Bytes read → 0 < length left → left ++ read ≡ drop at bytes → length bytes < at + 8
+    → low_first (length read) read 0 < 2 ^ 48
+last_room left read bytes at b one e h =
+    let all : length left + length read ≡ length bytes - at = sym (length-append left read) ∙ ap length e ∙ length-drop at bytes in
+    let few : 8 * length read ≤ 48 = omega arith in
+    omega (arith, low_first-lt read b (length read) 0, pow_mono few)
+
+pub last_low : (bytes rest : List ℕ) (at : ℕ) → rest ≡ drop at bytes → length bytes < at + 8 → low_first (length rest) rest 0 ≡ low_first 8 bytes at
+last_low bytes rest at e h =
+    let few : length rest ≤ 8 = rw e (rw length-drop (omega arith)) in
+    let whole : length rest + (8 - length rest) ≡ 8 = omega arith in
+    let here : at + 0 ≡ at = omega arith in
+    let on = low_first-drop 8 at 0 bytes in
+    sym (rw whole at (low_first_past (length rest) (8 - length rest) rest 0 (omega arith))) ∙ (rw (← e, here) at on)
 
 pub from_none : (order x p : ℕ) → x < 2 ^ 64 → 64 ≤ p → from_bit order x p ≡ 0
 unfolding from_bit

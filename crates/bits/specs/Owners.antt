@@ -1,9 +1,7 @@
 -- The owned bits of a Tx frame, as a set: bit e has an owner where digit e of the set is 1.
-use Rattle.std.specs.Prelude.{ℕ, zero, suc, ◌+◌, Bool, false, ◌||◌, eqb}
+use Rattle.std.specs.Prelude.{ℕ, zero, suc, ◌+◌, Bool, false, ◌||◌, eqb, Option, Some, None}
 use Rattle.base.specs.Pick.{pick}
 use Rattle.bits.specs.Digit.{digit, set_digit}
-use Rattle.bits.specs.declared.owners.Joined.{Joined}
-use Rattle.bits.specs.declared.owners.Joined.TheVariants.{Set, Clash}
 
 -- how many of the bits below w have an owner
 unfoldable pub owners : ℕ → ℕ → ℕ
@@ -21,5 +19,5 @@ clash set p zero = false
 clash set p (suc k) = eqb (digit set (p + k)) 1 || clash set p k
 
 -- "No bit has two owners": the bits join the set where none of them clashes
-unfoldable pub joined : ℕ → ℕ → ℕ → Joined
-joined set p s = pick (clash set p s) Clash (Set (owned set p s))
+unfoldable pub joined : ℕ → ℕ → ℕ → Option ℕ
+joined set p s = pick (clash set p s) None (Some (owned set p s))

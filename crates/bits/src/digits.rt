@@ -4,6 +4,7 @@ ghost use Rattle.bits.specs.Digit.{digit, set_digit};
 ghost use Rattle.bits.specs.Payload.{digit_of};
 
 // Which digit of its byte bit `p` is.
+#[tactic(auto, using(crate::proofs::PayloadLaws::digit_of_little), unfolding(crate::specs::Payload::digit_of))]
 pub fn digit_of(order: u8, p: usize) -> u8
     ensures { (result ≡ digit_of order p) × (result < 8) }
 {
@@ -20,6 +21,7 @@ fn weight(e: u8) -> u8
 }
 
 // Digit `e` of `byte`.
+#[tactic(auto, unfolding(crate::specs::Digit::digit))]
 pub fn get(byte: u8, e: u8) -> u8
     requires { e < 8 }
     ensures { (result ≡ digit byte e) × (result < 2) }

@@ -2,28 +2,21 @@
 ghost use Rattle.std.specs.Prelude.{◌≡◌, ◌+◌, ◌≤◌, ◌<◌};
 ghost use Rattle.bits.specs.Owners.{owners, joined};
 
-// What joining bits to a set finds: the set that has them too, or a bit that would have two owners.
-#[derive(Clone, Copy)]
-pub enum Joined {
-    Set(u64),
-    Clash,
-}
-
 // The set with bits `p` to `p + size - 1`, unless one of them has an owner.
-pub fn join(set: u64, p: u64, size: u64) -> Joined
+pub fn join(set: u64, p: u64, size: u64) -> Option<u64>
     requires { (0 < size) × (p + size ≤ 64) }
     ensures { result ≡ joined set p size }
 {
     let bits = (u64::MAX >> (64 - size)) << p;
     if set & bits != 0 {
-        return Joined::Clash;
+        return None;
     }
-    Joined::Set(set | bits)
+    Some(set | bits)
 }
 
 // How many bits have an owner, 0 to 64.
 pub fn count(set: u64) -> u32
     ensures { (result ≡ owners set 64) × (result ≤ 64) }
 {
-    u64::count_ones(set)
+    set.count_ones()
 }

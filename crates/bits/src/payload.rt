@@ -8,6 +8,7 @@ use crate::word::low_first;
 use base::at_most;
 
 // Bit `p` of a payload becomes `v`.
+#[tactic(auto, unfolding(crate::specs::Payload::set_bit))]
 pub fn write_bit(order: u8, payload: &mut [u8], p: usize, v: u8)
     requires { (p < 8 * length payload.old) × (v < 2) }
     ensures { payload.new ≡ set_bit order payload.old p v }
@@ -37,9 +38,7 @@ pub fn copy_signal(
         let n = at_most(56 - (q + k) % 8, size - k);
         let bytes = low_first(source, (p + k) / 8);
         let piece = take_signal(order, bytes, (p + k) % 8, n);
-        if put_signal(order, piece, kept, q + k) {
-            changed = true;
-        }
+        changed |= put_signal(order, piece, kept, q + k);
         k += n;
     }
     changed

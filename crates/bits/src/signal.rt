@@ -9,7 +9,7 @@ use crate::word::{big_bytes, from_bit, little_bytes, low_first, ones_of};
 use base::at_most;
 
 // A signal of a payload: where it stands there, its size, its bits from the first on, and a one for each of them, 64 at most.
-#[derive(Clone, Copy)]
+#[derive(Clone, Copy, Debug, PartialEq, Eq)]
 pub struct Signal {
     pub position: usize,
     pub size: usize,
@@ -25,6 +25,7 @@ pub fn bytes_of(payload: &[u8]) -> u64
 }
 
 // The signal at a position of eight bytes, `bytes` as such a number.
+#[tactic(auto, unfolding(crate::specs::Signal::signal_at))]
 pub fn take_signal(order: u8, bytes: u64, position: usize, size: usize) -> Signal
     ensures { result ≡ signal_at order bytes position size }
 {
@@ -39,6 +40,7 @@ pub fn take_signal(order: u8, bytes: u64, position: usize, size: usize) -> Signa
 }
 
 // Eight bytes made up of the kept ones and new ones, each eight as a number: the digits are the new ones' where the mask has a one.
+#[tactic(auto, using(crate::proofs::MadeUp::made_by_code))]
 fn made_up(kept: u64, new: u64, mask: u64) -> u64
     ensures { result ≡ made_up kept new mask }
 {

@@ -2,24 +2,24 @@
 use mathlib.Core.Path.{◌≡◌, sym, ap, ◌∙◌}
 use mathlib.Core.Bool.{Bool, true, false}
 use Prim.Native.Nat.{ℕ, ◌≤◌, ◌<◌}
+use Rattle.std.specs.Prelude.{Some, None}
 use borrow.Author.Tests.{eq-eqb, ne_eqb, le-ltb, lt-ltb}
 use lib.Dec.{eqb}
 use Rattle.base.proofs.Apart.{differ}
 use Rattle.base.specs.Pick.{pick}
 use Rattle.base.proofs.Picks.{picks, passes}
 use Rattle.bits.specs.Owners.{owned, clash, joined}
-use Rattle.bits.specs.declared.owners.Joined.TheVariants as answer
 use Rattle.bits.proofs.OwnerLaws.{joined-clash, joined-set}
 use Rattle.plan.specs.declared.verdict.Reason.TheVariants.{Owner, Indicator}
 use Rattle.plan.specs.declared.claim.Claimed.TheVariants.{Set, Refused}
 use Rattle.plan.specs.Claim.{claimed}
 
 module _ (set q s awaits position room : ℕ) where
-  pub claimed_taken : joined set q s ≡ answer.Clash → Refused Owner ≡ claimed set q s awaits position room
+  pub claimed_taken : joined set q s ≡ None → Refused Owner ≡ claimed set q s awaits position room
   unfolding claimed
   claimed_taken j = sym (picks _ _ _ (joined-clash set q s j))
 
-  module _ (one : ℕ) (j : joined set q s ≡ answer.Set one) where
+  module _ (one : ℕ) (j : joined set q s ≡ Some one) where
     free : clash set q s ≡ false
     free = (joined-set set q s one j).0
 
@@ -36,13 +36,13 @@ module _ (set q s awaits position room : ℕ) where
       claimed_outside h = sym (passes _ _ _ free ∙ passes _ _ _ (ne_eqb _ _ d) ∙ passes _ _ _ (le-ltb _ _ h))
 
       module _ (h : position < room) where
-        pub claimed_twice : joined one position 1 ≡ answer.Clash → Refused Owner ≡ claimed set q s awaits position room
+        pub claimed_twice : joined one position 1 ≡ None → Refused Owner ≡ claimed set q s awaits position room
         unfolding claimed
         claimed_twice k =
             let taken : clash (owned set q s) position 1 ≡ true = rw same at (joined-clash one position 1 k) in
             sym (passes _ _ _ free ∙ passes _ _ _ (ne_eqb _ _ d) ∙ picks _ _ _ (lt-ltb _ _ h) ∙ picks _ _ _ taken)
 
-        pub claimed_both : (two : ℕ) → joined one position 1 ≡ answer.Set two → Set two ≡ claimed set q s awaits position room
+        pub claimed_both : (two : ℕ) → joined one position 1 ≡ Some two → Set two ≡ claimed set q s awaits position room
         unfolding claimed
         claimed_both two k =
             let r = rw same at (joined-set one position 1 two k) in

@@ -4,7 +4,7 @@ ghost use Rattle.plan.specs.Claim.{claimed};
 
 use crate::verdict::Reason;
 use base::wide;
-use bits::owners::{Joined, join};
+use bits::owners::join;
 
 // The set with the claimed bits, or why the plan is refused.
 #[derive(Clone, Copy)]
@@ -18,7 +18,7 @@ pub fn claim(set: u64, q: usize, size: usize, awaits: u8, position: u8, room: us
     requires { (0 < size) × (q + size ≤ 64) × (room ≤ 64) }
     ensures { result ≡ claimed set q size awaits position room }
 {
-    let Joined::Set(joined) = join(set, q as u64, size as u64) else {
+    let Some(joined) = join(set, q as u64, size as u64) else {
         return Claimed::Refused(Reason::Owner);
     };
     if awaits == 0 {
@@ -28,7 +28,7 @@ pub fn claim(set: u64, q: usize, size: usize, awaits: u8, position: u8, room: us
     if room <= p {
         return Claimed::Refused(Reason::Indicator);
     }
-    let Joined::Set(both) = join(joined, p as u64, 1) else {
+    let Some(both) = join(joined, p as u64, 1) else {
         return Claimed::Refused(Reason::Owner);
     };
     Claimed::Set(both)

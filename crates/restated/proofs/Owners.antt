@@ -2,6 +2,7 @@
 use mathlib.Core.Path.{◌≡◌, refl, sym, ap, ◌∙◌}
 use mathlib.Core.Bool.{Bool, true, false, true≢false}
 use mathlib.Core.Logic.{◌⊎◌, inl, inr, ⊎_elim, ◌↔◌}
+use Rattle.std.specs.Prelude.{Some, None}
 use Prim.Native.Nat.{ℕ, suc, ◌+◌, ◌-◌, ◌/◌, ◌%◌, ◌^◌, ◌≤◌, ◌<◌}
 use native.Mathlib.Nat.{pow-suc}
 use native.Mathlib.Decide.{dec_le, dec_lt}
@@ -9,7 +10,6 @@ use native.Mathlib.Omega.{arith}
 use lib.Count.{ones_step}
 use Rattle.base.proofs.Picks.{picks, passes}
 use Rattle.bits.specs.Digit.{digit}
-use Rattle.bits.specs.declared.owners.Joined.TheVariants.{Set, Clash}
 use Rattle.bits.specs.Owners.{owners, owned, clash, joined}
 use Rattle.bits.proofs.OwnerLaws.{owned_bit, owned_other, owned-lt, clash_exactly, joined-clash, joined-set, owners-ones}
 use Rattle.restated.specs.Owners.{Owns, Among, Clashes, OwnersByDigits}
@@ -46,15 +46,15 @@ module _ (set p s : ℕ) where
     λ w. let z = inside p s w.0 w.1 in (clash_exactly set p s).1 (w.0 - p, z.0, rw z.1 w.2),
   )
 
-  refused_exactly : (joined set p s ≡ Clash) ↔ Clashes set p s
+  refused_exactly : (joined set p s ≡ None) ↔ Clashes set p s
   unfolding joined
   refused_exactly = (λ e. clashes_exactly.0 (joined-clash set p s e), λ w. picks _ _ _ (clashes_exactly.1 w))
 
-  joins_exactly : (n : ℕ) → (joined set p s ≡ Set n) ↔ ((Clashes set p s → ⊥) × (n ≡ owned set p s))
+  joins_exactly : (n : ℕ) → (joined set p s ≡ Some n) ↔ ((Clashes set p s → ⊥) × (n ≡ owned set p s))
   unfolding joined
   joins_exactly n = (
     λ e. let w = joined-set set p s n e in (λ c. true≢false (sym (clashes_exactly.1 c) ∙ w.0), w.1),
-    λ w. passes _ _ _ (free w.0 (clash set p s) refl) ∙ ap Set (sym w.1),
+    λ w. passes _ _ _ (free w.0 (clash set p s) refl) ∙ ap Some (sym w.1),
   )
     where
       free : (Clashes set p s → ⊥) → (t : Bool) → clash set p s ≡ t → clash set p s ≡ false

@@ -1,6 +1,5 @@
 -- The owned bits of a Tx frame, by the digits of their set.
-use Rattle.std.specs.Prelude.{◌≡◌, true, ◌⊎◌, ◌↔◌, ℕ, suc, ◌+◌, ◌/◌, ◌%◌, ◌^◌, ◌≤◌, ◌<◌}
-use Rattle.bits.specs.declared.owners.Joined.TheVariants.{Set, Clash}
+use Rattle.std.specs.Prelude.{◌≡◌, Some, None, true, ◌⊎◌, ◌↔◌, ℕ, suc, ◌+◌, ◌/◌, ◌%◌, ◌^◌, ◌≤◌, ◌<◌}
 use Rattle.bits.specs.Owners.{owners, owned, clash, joined}
 
 -- bit e has an owner
@@ -21,8 +20,8 @@ pub record OwnersByDigits : Type 0 where
   pub small : (w set p s : ℕ) → p + s ≤ w → set < 2 ^ w → owned set p s < 2 ^ w
   -- "No bit has two owners."
   pub clashes : (set p s : ℕ) → (clash set p s ≡ true) ↔ Clashes set p s
-  pub refused : (set p s : ℕ) → (joined set p s ≡ Clash) ↔ Clashes set p s
-  pub joins : (set p s n : ℕ) → (joined set p s ≡ Set n) ↔ ((Clashes set p s → ⊥) × (n ≡ owned set p s))
+  pub refused : (set p s : ℕ) → (joined set p s ≡ None) ↔ Clashes set p s
+  pub joins : (set p s n : ℕ) → (joined set p s ≡ Some n) ↔ ((Clashes set p s → ⊥) × (n ≡ owned set p s))
   -- "Fullness of a Tx frame answers how many of its bits have an owner": none of none, and the lowest bit with those above it
   pub nobody : (set : ℕ) → owners set 0 ≡ 0
   pub counts : (w set : ℕ) → set < 2 ^ suc w → owners set (suc w) ≡ set % 2 + owners (set / 2) w

@@ -2,9 +2,9 @@
 -- clashes, and joins it by an or where none does.
 use mathlib.Core.Path.{◌≡◌, sym, ap, ◌∙◌}
 use lib.Bits.{bit_and}
+use Rattle.std.specs.Prelude.{Some}
 use Rattle.base.proofs.Picks.{picks, passes}
 use Rattle.bits.specs.Owners.{joined}
-use Rattle.bits.specs.declared.owners.Joined.TheVariants.{Set}
 use Rattle.bits.proofs.MaskLaws.{range, range_made, clash_common, apart_free, owned_or}
 use borrow.Author.Rules.{rules}
 use Rattle.bits.proofs.owners.join.Goals as goal
@@ -20,4 +20,4 @@ unfolding joined
 returns c = let a = c.args in
     let made = range_made a.size a.p c.requires.1 in
     let apart : bit_and a.set (range a.size a.p) ≡ 0 = rw made at c.if-set-bits-ne0.false in
-    ap Set (rw made (owned_or a.set a.p a.size apart)) ∙ sym (passes _ _ _ (apart_free a.set a.p a.size apart))
+    ap Some (rw made (owned_or a.set a.p a.size apart)) ∙ sym (passes _ _ _ (apart_free a.set a.p a.size apart))

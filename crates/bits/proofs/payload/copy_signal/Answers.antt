@@ -5,6 +5,7 @@ use Prim.Native.Nat.{◌+◌, ◌-◌, ◌*◌, ◌%◌, ◌≤◌}
 use native.Mathlib.Omega.{arith}
 use borrow.Author.Rules.{rules}
 use lib.ListN.{length}
+use Rattle.std.proofs.Math.Bool.{or_comm}
 use Rattle.base.proofs.Ranges.{at_most_fewer, at_most_above}
 use Rattle.bits.specs.Signal.{signal_at}
 use Rattle.bits.specs.Word.{fitting, Bits}
@@ -13,16 +14,15 @@ use Rattle.bits.proofs.SignalLaws.{copied_parts, differs_parts}
 use Rattle.bits.proofs.WordLaws.{piece_bits}
 use Rattle.bits.proofs.Fitting.{fitting-le, fitting_is}
 use Rattle.bits.proofs.PayloadLaws.{Bytes}
-use Rattle.bits.proofs.payload.copy_signal.Goals.{then-put_signal, else-put_signal}
 use Rattle.bits.proofs.payload.copy_signal.Goals as goal
 
 pub loop-k-init : goal.loop-k-init
 unfolding copied differs
 loop-k-init c = search rules
 
-pub put_signal-requires : goal.put_signal-requires
+pub put_signal-changed-requires : goal.put_signal-changed-requires
 unfolding signal_at
-put_signal-requires c = let v = c.args in
+put_signal-changed-requires c = let v = c.args in
     let l = c.loop-k in
     let fits : v.q + l.k + c.at_most-n.result ≤ 8 * length l.kept =
     omega (arith, c.at_most-n.ensures.0, at_most_fewer (56 - (v.q + l.k) % 8) (v.size - l.k)) in
@@ -59,7 +59,7 @@ loop-k-preserved c =
     (piece_bits v.order v.source.now (v.p + l.k) n b (omega (arith, most.ensures.1))) in
     let whole : fitting (v.q + l.k) piece.result.size ≡ n =
     rw piece.ensures (fitting_is (v.q + l.k) n (omega (arith, most.ensures.1))) in
-    let put = c.put_signal in
+    let put = c.put_signal-changed in
     let kept = rw whole at (put.ensures.payload v.source.now (v.p + l.k) has) in
     let answer = rw whole at (put.ensures.answer v.source.now (v.p + l.k) has) in (
       omega arith,
@@ -70,6 +70,5 @@ loop-k-preserved c =
         ← l.invariant.2,
         ← l.invariant.3,
         ← answer,
-      )
-          (elim c.if-put_signal.branch [ then-put_signal w ↦ rw w.if-put_signal.true w.changed-is | else-put_signal w ↦ rw w.if-put_signal.false w.changed-is ]),
+      ) (or_comm l.changed put.result),
     )

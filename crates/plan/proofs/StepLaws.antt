@@ -6,6 +6,7 @@ use Prim.Native.Nat.{ℕ, ◌+◌, ◌*◌, ◌≤◌, ◌<◌}
 use lib.Dec.{leb, ltb, eqb}
 use lib.ListN.{get_or}
 use borrow.Author.Tests.{not-true, not-false, le-leb, lt-leb, le-ltb, lt-ltb}
+use Rattle.std.specs.Prelude.{Result, Ok, Err}
 use Rattle.base.specs.Pick.{pick}
 use Rattle.base.proofs.Picks.{picks, passes}
 use Rattle.records.specs.declared.record.NodeBody.{NodeBody}
@@ -25,8 +26,6 @@ use Rattle.plan.specs.declared.progress.Next.TheVariants.{Go, Refuse}
 use Rattle.plan.specs.Progress.{row_key, after}
 use Rattle.plan.specs.Tests.{may_stand, can_first, has_room, tx_in_range, rx_in_range, in_range, frame_fits, fits_node, rises, in_data, is_free}
 use Rattle.plan.specs.Tests.{indicator_in_data, indicator_is_free}
-use Rattle.plan.specs.declared.claim.Claimed.{Claimed}
-use Rattle.plan.specs.declared.claim.Claimed.TheVariants.{Set, Refused}
 use Rattle.bits.specs.Owners.{owned, clash}
 use Rattle.plan.specs.Claim.{claimed}
 use Rattle.plan.specs.Check.{need, placed}
@@ -128,17 +127,17 @@ module _ (p : Progress) (sizes sets : List ℕ) where
 -- ---- a destination: what it claims decides
 
 -- by what is claimed
-unfoldable pub claim_next : Progress → Record → Claimed → Next
-claim_next p r (Set set) = Go (after p r)
-claim_next p r (Refused reason) = Refuse reason p.number
+unfoldable pub claim_next : Progress → Record → Result ℕ Reason → Next
+claim_next p r (Ok set) = Go (after p r)
+claim_next p r (Err reason) = Refuse reason p.number
 
-pub claim_next_same : (p : Progress) (r : Record) {x y : Claimed} → x ≡ y → claim_next p r x ≡ claim_next p r y
+pub claim_next_same : (p : Progress) (r : Record) {x y : Result ℕ Reason} → x ≡ y → claim_next p r x ≡ claim_next p r y
 claim_next_same p r e = ap (claim_next p r) e
 
 -- as tests: the answers are a clash, no failure bit awaited, its position inside, and its clash
 claim_cases :
     (p : Progress) (r : Record) (a b c d : Bool) (one two : ℕ)
-    → claim_next p r (pick a (Refused Owner) (pick b (Set one) (pick c (pick d (Refused Owner) (Set two)) (Refused Indicator))))
+    → claim_next p r (pick a (Err Owner) (pick b (Ok one) (pick c (pick d (Err Owner) (Ok two)) (Err Indicator))))
     ≡ need (not a) Owner p.number (need (b || c) Indicator p.number (need (b || not d) Owner p.number (Go (after p r))))
 unfolding claim_next need pick
 claim_cases p r true b c d one two = refl

@@ -6,30 +6,30 @@ use crate::verdict::Reason;
 use base::wide;
 use bits::owners::join;
 
-// The set with the claimed bits, or why the plan is refused.
-#[derive(Clone, Copy)]
-pub enum Claimed {
-    Set(u64),
-    Refused(Reason),
-}
-
-// `room` is how many bits the Tx frame's data has.
-pub fn claim(set: u64, q: usize, size: usize, awaits: u8, position: u8, room: usize) -> Claimed
+// The set with the claimed bits, or why the plan is refused. `room` is how many bits the Tx frame's data has.
+pub fn claim(
+    set: u64,
+    q: usize,
+    size: usize,
+    awaits: u8,
+    position: u8,
+    room: usize,
+) -> Result<u64, Reason>
     requires { (0 < size) × (q + size ≤ 64) × (room ≤ 64) }
     ensures { result ≡ claimed set q size awaits position room }
 {
     let Some(joined) = join(set, q as u64, size as u64) else {
-        return Claimed::Refused(Reason::Owner);
+        return Err(Reason::Owner);
     };
     if awaits == 0 {
-        return Claimed::Set(joined);
+        return Ok(joined);
     }
     let p = wide(position);
     if room <= p {
-        return Claimed::Refused(Reason::Indicator);
+        return Err(Reason::Indicator);
     }
     let Some(both) = join(joined, p as u64, 1) else {
-        return Claimed::Refused(Reason::Owner);
+        return Err(Reason::Owner);
     };
-    Claimed::Set(both)
+    Ok(both)
 }

@@ -6,7 +6,7 @@ ghost use Rattle.plan.specs.Limits.{most_tx};
 ghost use Rattle.plan.specs.Check.{placed, judged};
 ghost use Rattle.plan.specs.Motion.{Fair, Tables, sizes_then, sets_then};
 
-use crate::claim::{Claimed, claim};
+use crate::claim::claim;
 use crate::limits::{
     KEY_RANGE, MOST_DESTINATIONS, MOST_IN_FRAME, MOST_NODES, MOST_OF_SIGNAL, MOST_RX, MOST_SIGNALS,
     MOST_TX,
@@ -246,8 +246,8 @@ pub fn destination_step(p: Progress, body: DestinationBody, sizes: &[u8], sets: 
     }
     let claimed = claim(sets[t], q, old.size, old.awaits, old.position, room);
     match claimed {
-        Claimed::Refused(reason) => refuse(p, reason),
-        Claimed::Set(set) => {
+        Err(reason) => refuse(p, reason),
+        Ok(set) => {
             sets[t] = set;
             let counts = Counts {
                 nodes: c.nodes,

@@ -65,11 +65,11 @@ claim-claimed-requires c = let fair = c.requires.0 in
       omega (arith, small, c.wide-room.ensures.0),
     )
 
-pub offset_bounds-sets-t-in-Set : goal.offset_bounds-sets-t-in-Set
-offset_bounds-sets-t-in-Set c = omega (arith, c.requires.0.tx, c.if-c-t.false)
+pub offset_bounds-sets-t-in-Ok : goal.offset_bounds-sets-t-in-Ok
+offset_bounds-sets-t-in-Ok c = omega (arith, c.requires.0.tx, c.if-c-t.false)
 
-pub bounds-sets-t-in-Set : goal.bounds-sets-t-in-Set
-bounds-sets-t-in-Set c = omega (arith, c.requires.0.tx, c.requires.2, c.if-c-t.false)
+pub bounds-sets-t-in-Ok : goal.bounds-sets-t-in-Ok
+bounds-sets-t-in-Ok c = omega (arith, c.requires.0.tx, c.requires.2, c.if-c-t.false)
 
 pub overflow_add-counts : goal.overflow_add-counts
 overflow_add-counts c = omega (arith, c.requires.0.destinations)
@@ -80,13 +80,13 @@ overflow_add-row c = omega (arith, c.requires.0.of_signal)
 pub go_on-requires : goal.go_on-requires
 go_on-requires c = c.requires.0
 
-pub returns-in-Refused : goal.returns-in-Refused
+pub returns-in-Err : goal.returns-in-Err
 unfolding claim_next
-returns-in-Refused c = let within =
+returns-in-Err c = let within =
     in_data_inside c.args.p c.args.sizes.now c.args.body (omega (arith, c.if-c-t.false))
     (omega (arith, c.if-room-q.false, c.wide-q.ensures.0, c.wide-room.ensures.0)) in
-    let claimed = rw (c.wide-q.ensures.0, c.wide-room.ensures.0) at c.in-Refused.ensures in
-    rw c.refuse-in-Refused.ensures
+    let claimed = rw (c.wide-q.ensures.0, c.wide-room.ensures.0) at c.in-Err.ensures in
+    rw c.refuse-in-Err.ensures
     (record {
       next =
           past (destination_tests c.args.p c.args.sizes.now c.args.sets.now c.args.body) (search (rules, tests))
@@ -94,12 +94,12 @@ returns-in-Refused c = let within =
       sets = refl;
     })
 
-pub returns-in-Set : goal.returns-in-Set
+pub returns-in-Ok : goal.returns-in-Ok
 unfolding after counted row_after stage_of pick sets_after claim_next
-returns-in-Set c = let within =
+returns-in-Ok c = let within =
     in_data_inside c.args.p c.args.sizes.now c.args.body (omega (arith, c.if-c-t.false))
     (omega (arith, c.if-room-q.false, c.wide-q.ensures.0, c.wide-room.ensures.0)) in
-    let claimed = rw (c.wide-q.ensures.0, c.wide-room.ensures.0) at c.in-Set.ensures in
+    let claimed = rw (c.wide-q.ensures.0, c.wide-room.ensures.0) at c.in-Ok.ensures in
     rw c.go_on.ensures
     (record {
       next =

@@ -5,6 +5,7 @@ use mathlib.Core.List.{List, [], ◌∷◌}
 use Prim.Native.Nat.{ℕ, ◌<◌}
 use native.Mathlib.Omega.{arith}
 use borrow.Author.Tests.{eqb-false, ne_eqb}
+use Rattle.std.specs.Prelude.{Result, Ok, Err}
 use Rattle.base.proofs.Apart.{differ}
 use Rattle.base.specs.Pick.{pick}
 use Rattle.records.specs.declared.record.Record.{Record}
@@ -13,8 +14,7 @@ use Rattle.plan.specs.declared.verdict.Verdict.{Verdict}
 use Rattle.plan.specs.declared.verdict.Verdict.TheVariants.{Good, Refused}
 use Rattle.plan.specs.declared.progress.Counts.{Counts}
 use Rattle.plan.specs.declared.progress.Progress.{Progress}
-use Rattle.plan.specs.declared.progress.Next.{Next}
-use Rattle.plan.specs.declared.progress.Next.TheVariants.{Go, Refuse}
+use Rattle.plan.specs.declared.verdict.BadRecord.{BadRecord}
 use Rattle.plan.specs.Progress.{counted, after}
 use Rattle.plan.specs.Tests.{followed}
 use Rattle.plan.proofs.CheckLaws.{Passed, passed}
@@ -45,9 +45,9 @@ module _ (n t r : ℕ) where
   unfolding verdict_of
   judged_good p sizes sets x rest e = go (judged p sizes sets x) refl e
     where
-      go : (y : Next) → judged p sizes sets x ≡ y → verdict_of y rest ≡ Good n t r → Passed p sizes sets x × (rest ≡ Good n t r)
-      go (Go q) is e = ((passed p sizes sets x q is).0, e)
-      go (Refuse a k) is e = absurd (differ cc)
+      go : (y : Result Progress BadRecord) → judged p sizes sets x ≡ y → verdict_of y rest ≡ Good n t r → Passed p sizes sets x × (rest ≡ Good n t r)
+      go (Ok q) is e = ((passed p sizes sets x q is).0, e)
+      go (Err bad) is e = absurd (differ cc)
 
   -- a choice that is good, where one side is a refusal
   pick_good : (b : Bool) (v : Verdict) (a : Reason) (k : ℕ) → pick b v (Refused a k) ≡ Good n t r → (b ≡ true) × (v ≡ Good n t r)
@@ -75,7 +75,7 @@ module _ (n t r : ℕ) where
 
 -- ---- and where all passed the verdict is good
 
-passed_judged : (p : Progress) (sizes sets : List ℕ) (r : Record) → Passed p sizes sets r → judged p sizes sets r ≡ Go (after p r)
+passed_judged : (p : Progress) (sizes sets : List ℕ) (r : Record) → Passed p sizes sets r → judged p sizes sets r ≡ Ok (after p r)
 unfolding judged placed need pick
 passed_judged p sizes sets r h =
     rw (h.follows, h.known, h.whole, h.stands, h.first, h.room, h.range, h.fits, h.order, h.inside, h.free, h.indicated, h.indicator)

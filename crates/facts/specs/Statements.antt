@@ -1,14 +1,13 @@
 -- What is proved of the check: a plan is good exactly where it has the facts of `GoodPlan`, and what others may use of it.
-use Rattle.std.specs.Prelude.{◌≡◌, List, [], ◌∷◌, ◌++◌, ℕ, ◌+◌, ◌≤◌, ◌<◌, length, get_or, replicate}
+use Rattle.std.specs.Prelude.{◌≡◌, List, [], ◌∷◌, ◌++◌, ℕ, ◌+◌, ◌≤◌, ◌<◌, length, get_or, replicate, Result, Ok}
 use Rattle.records.specs.declared.record.Record.{Record}
 use Rattle.records.specs.Records.{records}
 use Rattle.plan.specs.declared.verdict.Reason.{Reason}
 use Rattle.plan.specs.declared.verdict.Verdict.TheVariants.{Good, Refused}
 use Rattle.plan.specs.declared.progress.Progress.{Progress}
-use Rattle.plan.specs.declared.progress.Next.{Next}
-use Rattle.plan.specs.declared.progress.Next.TheVariants.{Go, Refuse}
+use Rattle.plan.specs.declared.verdict.BadRecord.{BadRecord}
 use Rattle.plan.specs.Progress.{after, start}
-use Rattle.plan.specs.Check.{judged, sizes_after, sets_after, check_plan}
+use Rattle.plan.specs.Check.{refused_at, judged, sizes_after, sets_after, check_plan}
 use Rattle.plan.specs.Rows.{width_of, Claim, Row, rows_of, claims_of, tx_of, nodes_in}
 use Rattle.facts.specs.Good.{Each, Holds, GoodPlan}
 use Rattle.facts.specs.PlanCases.{plan_cases, VerdictsHold}
@@ -45,7 +44,7 @@ pub record State : Type 0 where
 abbrev pub begun : State
 begun = record { progress = start; sizes = replicate 256 0; sets = replicate 256 0 }
 
-abbrev pub judged_in : State → Record → Next
+abbrev pub judged_in : State → Record → Result Progress BadRecord
 judged_in s r = judged s.progress s.sizes s.sets r
 
 abbrev pub stepped : State → Record → State
@@ -63,13 +62,13 @@ state_after s (r ∷ rs) = state_after (stepped s r) rs
 -- each of some records passes
 unfoldable pub AllGo : State → List Record → Type 0
 AllGo s [] = Unit {0}
-AllGo s (r ∷ rs) = (judged_in s r ≡ Go (after s.progress r)) × AllGo (stepped s r) rs
+AllGo s (r ∷ rs) = (judged_in s r ≡ Ok (after s.progress r)) × AllGo (stepped s r) rs
 
 -- where the records before one pass and it does not, the verdict is its refusal, whatever comes after it
 abbrev pub FirstBad : Type 0
 FirstBad =
     (plan : List ℕ) (before rest : List Record) (r : Record) (reason : Reason) (number : ℕ) → records plan ≡ before ++ r ∷ rest
-    → AllGo begun before → judged_in (state_after begun before) r ≡ Refuse reason number → check_plan plan ≡ Refused reason number
+    → AllGo begun before → judged_in (state_after begun before) r ≡ refused_at reason number → check_plan plan ≡ Refused reason number
 
 -- ---- bounds of a good plan
 

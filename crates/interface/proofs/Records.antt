@@ -6,6 +6,7 @@ use Prim.Native.Nat.{ℕ, ◌+◌, ◌*◌, ◌≤◌}
 use native.Mathlib.Omega.{arith}
 use lib.Dec.{ltb}
 use borrow.Author.Tests.{ltb-true, eqb-true}
+use Rattle.std.specs.Prelude.{Result}
 use Rattle.base.proofs.Picks.{cases, both}
 use Rattle.records.specs.declared.record.Record.{Record}
 use Rattle.records.specs.declared.record.Record.TheVariants.{Head, Node, Tx, Rx, Signal, Destination, Broken}
@@ -15,7 +16,7 @@ use Rattle.plan.specs.declared.verdict.Reason.{Reason}
 use Rattle.plan.specs.declared.verdict.Verdict.{Verdict}
 use Rattle.plan.specs.declared.verdict.Verdict.TheVariants.{Good, Refused}
 use Rattle.plan.specs.declared.progress.Progress.{Progress}
-use Rattle.plan.specs.declared.progress.Next.{Next}
+use Rattle.plan.specs.declared.verdict.BadRecord.{BadRecord}
 use Rattle.plan.specs.Progress.{counted, row_after, after, start}
 use Rattle.plan.specs.Tests.{is_kind, is_whole, may_stand, has_room}
 use Rattle.plan.specs.Check.{need, placed, judged, ended, verdict_of, check_on, check_plan}
@@ -52,7 +53,7 @@ Low (Good n t r) = Unit {0}
 Low (Refused reason number) = number ≤ 3601
 
 need_low :
-    (test : Bool) (reason : Reason) (k : ℕ) (next : Next) (rest : Verdict) → k ≤ 3601 → (test ≡ true → Low (verdict_of next rest))
+    (test : Bool) (reason : Reason) (k : ℕ) (next : Result Progress BadRecord) (rest : Verdict) → k ≤ 3601 → (test ≡ true → Low (verdict_of next rest))
     → Low (verdict_of (need test reason k next) rest)
 unfolding need verdict_of Low
 need_low test reason k next rest l h = cases (λ n. Low (verdict_of n rest)) test _ _ h (λ e. l)

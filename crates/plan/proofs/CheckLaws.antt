@@ -1,7 +1,8 @@
 -- One record more: what a record that passes leaves, and that the rest then decides as the whole plan does.
 use mathlib.Core.Path.{◌≡◌, refl, sym}
-use mathlib.Core.Bool.{Bool, true, false, not}
+use mathlib.Core.Bool.{Bool, true, false}
 use mathlib.Core.List.{List, []}
+use Rattle.std.specs.Prelude.{Result, Ok, Err}
 use Prim.Native.Nat.{ℕ}
 use Rattle.base.proofs.Apart.{differ}
 use Rattle.base.specs.Pick.{pick}
@@ -10,26 +11,21 @@ use Rattle.records.specs.declared.record.Record.TheVariants.{Head, Node, Tx, Rx,
 use Rattle.records.specs.declared.record.SignalBody.{SignalBody}
 use Rattle.records.specs.declared.record.DestinationBody.{DestinationBody}
 use Rattle.records.specs.declared.record.Follower.TheVariants as follower
-use Rattle.records.specs.declared.record.Fault.{Fault}
-use Rattle.records.specs.declared.record.Fault.TheVariants.{End, BadKind, Cut}
 use Rattle.records.specs.Kinds.{stage_of}
 use Rattle.records.specs.Reading.{follower_of}
 use Rattle.records.proofs.Variants.{by_destination}
 use Rattle.plan.specs.declared.verdict.Reason.{Reason}
-use Rattle.plan.specs.declared.verdict.Reason.TheVariants.{Indicator}
 use Rattle.plan.specs.declared.progress.Progress.{Progress}
-use Rattle.plan.specs.declared.progress.Next.{Next}
-use Rattle.plan.specs.declared.progress.Next.TheVariants.{Go, Refuse}
+use Rattle.plan.specs.declared.verdict.BadRecord.{BadRecord}
 use Rattle.plan.specs.Progress.{after}
 use Rattle.plan.specs.Tests.{followed, is_kind, is_whole, may_stand, can_first, has_room, in_range, fits_node, rises, in_data, is_free}
 use Rattle.plan.specs.Tests.{indicator_in_data, indicator_is_free}
-use Rattle.plan.specs.Check.{need, placed, judged, fault_reason, sizes_after, sets_after}
-use Rattle.plan.specs.Motion.{Tables, sizes_then, sets_then}
-use Rattle.plan.proofs.StepLaws.{stops, goes}
+use Rattle.plan.specs.Check.{need, placed, judged, sizes_after, sets_after}
+use Rattle.plan.specs.Motion.{sizes_then, sets_then}
 
 -- ---- what a record that is taken passed
 
-need_go : (t : Bool) (a : Reason) (n : ℕ) (rest : Next) (q : Progress) → need t a n rest ≡ Go q → (t ≡ true) × (rest ≡ Go q)
+need_go : (t : Bool) (a : Reason) (n : ℕ) (rest : Result Progress BadRecord) (q : Progress) → need t a n rest ≡ Ok q → (t ≡ true) × (rest ≡ Ok q)
 unfolding need pick
 need_go true a n rest q e = (refl, e)
 need_go false a n rest q e = absurd (differ cc)
@@ -49,7 +45,7 @@ pub record Passed (p : Progress) (sizes sets : List ℕ) (r : Record) : Type 0 w
   pub indicated : indicator_in_data p.row sizes r ≡ true
   pub indicator : indicator_is_free p.row sets r ≡ true
 
-pub passed : (p : Progress) (sizes sets : List ℕ) (r : Record) (q : Progress) → judged p sizes sets r ≡ Go q → Passed p sizes sets r × (q ≡ after p r)
+pub passed : (p : Progress) (sizes sets : List ℕ) (r : Record) (q : Progress) → judged p sizes sets r ≡ Ok q → Passed p sizes sets r × (q ≡ after p r)
 unfolding judged placed
 passed p sizes sets r q e =
     let a = need_go _ _ _ _ q e in
@@ -83,41 +79,14 @@ passed p sizes sets r q e =
       (cc),
     )
 
--- ---- one record, as the code takes it
-
-module _ (p : Progress) (sizes sets : List ℕ) (r : Record) where
-  pub judged_missing : not (followed p.row (stage_of r)) ≡ true → Refuse Indicator p.row.source ≡ judged p sizes sets r
-  unfolding judged
-  judged_missing f = stops _ _ _ _ f
-
-  pub judged-placed :
-      not (followed p.row (stage_of r)) ≡ false → is_kind r ≡ true → is_whole r ≡ true → {n : Next} → n ≡ placed p sizes sets r → n ≡ judged p sizes sets r
-  unfolding judged
-  judged-placed f k w e = goes _ _ _ _ f (goes _ _ _ _ (rw k) (goes _ _ _ _ (rw w) e))
-
 -- a record that leaves the tables leaves them whether it is taken or not
-pub sizes_then_same : (p : Progress) (sizes : List ℕ) (r : Record) → sizes_after p.counts.tx sizes r ≡ sizes → (n : Next) → sizes ≡ sizes_then n p sizes r
-sizes_then_same p sizes r same (Go q) = sym same
-sizes_then_same p sizes r same (Refuse a k) = refl
+pub sizes_then_same : (p : Progress) (sizes : List ℕ) (r : Record) → sizes_after p.counts.tx sizes r ≡ sizes → (n : Result Progress BadRecord) → sizes ≡ sizes_then n p sizes r
+sizes_then_same p sizes r same (Ok q) = sym same
+sizes_then_same p sizes r same (Err bad) = refl
 
-pub sizes_left :
-    (p : Progress) (sizes : List ℕ) (r : Record) → not (followed p.row (stage_of r)) ≡ false → is_kind r ≡ true → is_whole r ≡ true → {n : Next}
-    → n ≡ placed p [] [] r → Tables sizes → sizes_after p.counts.tx sizes r ≡ sizes
-    → (n ≡ judged p [] [] r) × ((sizes ≡ sizes_then n p sizes r) × Tables sizes)
-sizes_left p sizes r f k w {n} e tables same = (judged-placed p [] [] r f k w e, (sizes_then_same p sizes r same n, tables))
-
-pub sets_then_same : (p : Progress) (sets : List ℕ) (r : Record) → sets_after p.row sets r ≡ sets → (n : Next) → sets ≡ sets_then n p sets r
-sets_then_same p sets r same (Go q) = sym same
-sets_then_same p sets r same (Refuse a k) = refl
-
--- a broken record is refused for its fault
-pub judged_broken :
-    (p : Progress) (sizes sets : List ℕ) (fault : Fault) → not (followed p.row (stage_of (Broken fault))) ≡ false
-    → Refuse (fault_reason fault) p.number ≡ judged p sizes sets (Broken fault)
-unfolding judged fault_reason is_kind is_whole
-judged_broken p sizes sets End f = goes _ _ _ _ f (stops _ _ _ _ refl)
-judged_broken p sizes sets BadKind f = goes _ _ _ _ f (stops _ _ _ _ refl)
-judged_broken p sizes sets (Cut kind) f = goes _ _ _ _ f (goes _ _ _ _ refl (stops _ _ _ _ refl))
+pub sets_then_same : (p : Progress) (sets : List ℕ) (r : Record) → sets_after p.row sets r ≡ sets → (n : Result Progress BadRecord) → sets ≡ sets_then n p sets r
+sets_then_same p sets r same (Ok q) = sym same
+sets_then_same p sets r same (Err bad) = refl
 
 -- ---- a record that is no signal and no destination
 
@@ -128,13 +97,6 @@ no_signal body e = differ cc
 no_destination : (body : DestinationBody) → follower_of (Destination body) ≡ follower.Other → ⊥
 unfolding follower_of
 no_destination body e = differ cc
-
--- it does not come where one of them is
-pub signal_elsewhere : {A : Type 0} (r : Record) {body : SignalBody} → follower_of r ≡ follower.Other → r ≡ Signal body → A
-signal_elsewhere r {body} other is = absurd (no_signal body (rw is at other))
-
-pub destination_elsewhere : {A : Type 0} (r : Record) {body : DestinationBody} → follower_of r ≡ follower.Other → r ≡ Destination body → A
-destination_elsewhere r {body} other is = absurd (no_destination body (rw is at other))
 
 -- it does not ask for the tables, and leaves the sets
 module _ (p : Progress) (sizes sets : List ℕ) where
@@ -154,5 +116,5 @@ same_sets p sets =
     by_destination (λ r. follower_of r ≡ follower.Other → sets_after p.row sets r ≡ sets) (λ body other. absurd (no_destination body other))
     (λ r none other. none.by _ _)
 
-pub sets_other : (p : Progress) (sets : List ℕ) (r : Record) → follower_of r ≡ follower.Other → (n : Next) → sets ≡ sets_then n p sets r
+pub sets_other : (p : Progress) (sets : List ℕ) (r : Record) → follower_of r ≡ follower.Other → (n : Result Progress BadRecord) → sets ≡ sets_then n p sets r
 sets_other p sets r other n = sets_then_same p sets r (same_sets p sets r other) n

@@ -1,4 +1,3 @@
-pub mod StepLaws
 pub mod TestLaws
 pub mod ClaimLaws
 pub mod MotionLaws

@@ -2,6 +2,7 @@
 use mathlib.Core.Path.{◌≡◌, refl, sym, ap, ◌∙◌}
 use mathlib.Core.Bool.{◌&&◌}
 use mathlib.Core.List.{List, [], ◌∷◌}
+use Rattle.std.specs.Prelude.{Result, Ok, Err}
 use Prim.Native.Nat.{ℕ, zero, suc, ◌+◌, ◌-◌, ◌^◌, ◌≤◌, ◌<◌}
 use native.Mathlib.Omega.{arith}
 use borrow.Author.Tests.{leb-true, ltb-true}
@@ -24,13 +25,11 @@ use Rattle.records.proofs.Variants.{by_destination}
 use Rattle.records.proofs.Followers.{step_signal, step_destination}
 use Rattle.records.proofs.RecordLaws.{step_onward, records_end, records_step}
 use Rattle.plan.specs.Limits.{most_nodes, most_tx, most_rx, most_signals, most_in_frame, most_destinations, most_of_signal}
-use Rattle.plan.specs.declared.verdict.Reason.{Reason}
 use Rattle.plan.specs.declared.verdict.Verdict.{Verdict}
 use Rattle.plan.specs.declared.verdict.Verdict.TheVariants.{Good, Refused}
 use Rattle.plan.specs.declared.progress.RowSoFar.{RowSoFar}
 use Rattle.plan.specs.declared.progress.Progress.{Progress}
-use Rattle.plan.specs.declared.progress.Next.{Next}
-use Rattle.plan.specs.declared.progress.Next.TheVariants.{Go, Refuse}
+use Rattle.plan.specs.declared.verdict.BadRecord.{BadRecord}
 use Rattle.plan.specs.Progress.{counted, row_after, after, start}
 use Rattle.plan.specs.Tests.{may_stand, has_room, in_range, in_data, is_free, indicator_in_data, indicator_is_free}
 use Rattle.plan.specs.Check.{placed, judged, sizes_after, sets_after, ended, verdict_of, check_on, check_plan, sets_unless, sets_on, sets_of, sets_fold}
@@ -113,7 +112,7 @@ pub record Here (plan : List ℕ) (at : ℕ) (p : Progress) (sizes sets : List �
   pub stood : Stands plan at p sizes sets
 
 -- a record that was read there and judged
-pub record Turned (plan : List ℕ) (at : ℕ) (p : Progress) (sizes sets : List ℕ) (read : Step) (next : Next) : Type 0 where
+pub record Turned (plan : List ℕ) (at : ℕ) (p : Progress) (sizes sets : List ℕ) (read : Step) (next : Result Progress BadRecord) : Type 0 where
   pub here : Here plan at p sizes sets
   pub found : read ≡ step_at plan at
   pub done : next ≡ judged p sizes sets read.found
@@ -123,7 +122,7 @@ abbrev on_rest : {A : Type 0} → List ℕ → Progress → List ℕ → List �
 on_rest plan p sizes sets read f =
     f (after p read.found) (sizes_after p.counts.tx sizes read.found) (sets_after p.row sets read.found) (records_at plan read.next)
 
-module _ {plan : List ℕ} {at : ℕ} {p : Progress} {sizes sets : List ℕ} {read : Step} {next : Next} (t : Turned plan at p sizes sets read next) where
+module _ {plan : List ℕ} {at : ℕ} {p : Progress} {sizes sets : List ℕ} {read : Step} {next : Result Progress BadRecord} (t : Turned plan at p sizes sets read next) where
   decides : verdict_of next (on_rest plan p sizes sets read check_on) ≡ check_plan plan
   unfolding check_on
   decides = rw (t.done, t.found) (rw (records_step plan at t.here.inside) at t.here.stood.rest)
@@ -137,13 +136,13 @@ module _ {plan : List ℕ} {at : ℕ} {p : Progress} {sizes sets : List ℕ} {re
   onward = rw t.found (step_onward plan at t.here.inside)
 
   pub refuses :
-      {a : Reason} {n : ℕ} {sets' : List ℕ} → next ≡ Refuse a n → sets' ≡ sets_then next p sets read.found
-      → (Refused a n ≡ check_plan plan) × (sets' ≡ sets_of plan)
+      {bad : BadRecord} {sets' : List ℕ} → next ≡ Err bad → sets' ≡ sets_then next p sets read.found
+      → (Refused bad.reason bad.record_number ≡ check_plan plan) × (sets' ≡ sets_of plan)
   unfolding verdict_of sets_unless
   refuses is et = (rw is at decides, (rw is at et) ∙ (rw is at joined))
 
   pub goes :
-      {q : Progress} {sizes' sets' : List ℕ} → next ≡ Go q → sizes' ≡ sizes_then next p sizes read.found → Tables sizes'
+      {q : Progress} {sizes' sets' : List ℕ} → next ≡ Ok q → sizes' ≡ sizes_then next p sizes read.found → Tables sizes'
       → sets' ≡ sets_then next p sets read.found → Stands plan read.next q sizes' sets'
   unfolding verdict_of sets_unless after
   goes {q} {sizes'} {sets'} is es tables et =
@@ -167,7 +166,7 @@ module _ {plan : List ℕ} {at : ℕ} {p : Progress} {sizes sets : List ℕ} {re
 -- ---- a signal and a destination, which are read apart from the other records
 
 module _ {plan : List ℕ} {at : ℕ} {p : Progress} {sizes sets : List ℕ} {found : Follower} (h : Here plan at p sizes sets) (told : found ≡ follower_at plan at)
-    {next : Next} where
+    {next : Result Progress BadRecord} where
   pub signal_turned :
       {body : SignalBody} → found ≡ follower.Signal body → next ≡ judged p [] [] (Signal body)
       → Turned plan at p sizes sets (record { found = Signal body; next = at + signal_bytes }) next
@@ -179,43 +178,43 @@ module _ {plan : List ℕ} {at : ℕ} {p : Progress} {sizes sets : List ℕ} {fo
       → Turned plan at p sizes sets (record { found = Destination body; next = at + destination_bytes }) next
   destination_turned is done = record { here = h; found = step_destination plan at (sym is ∙ told); done = done }
 
-module _ {plan : List ℕ} {at behind : ℕ} {p : Progress} {sizes sets : List ℕ} {next : Next} where
+module _ {plan : List ℕ} {at behind : ℕ} {p : Progress} {sizes sets : List ℕ} {next : Result Progress BadRecord} where
   module _ {body : SignalBody} (t : Turned plan at p sizes sets (record { found = Signal body; next = behind }) next) where
-    pub signal_goes : {q : Progress} → next ≡ Go q → Stands plan behind q sizes sets
+    pub signal_goes : {q : Progress} → next ≡ Ok q → Stands plan behind q sizes sets
     unfolding sizes_after sets_after
     signal_goes go =
         goes t go (sizes_then_same p sizes (Signal body) refl next) t.here.stood.tables (sets_then_same p sets (Signal body) refl next)
 
-    pub signal_refuses : {a : Reason} {n : ℕ} → next ≡ Refuse a n → (Refused a n ≡ check_plan plan) × (sets ≡ sets_of plan)
+    pub signal_refuses : {bad : BadRecord} → next ≡ Err bad → (Refused bad.reason bad.record_number ≡ check_plan plan) × (sets ≡ sets_of plan)
     unfolding sets_after
     signal_refuses stop = refuses t stop (sets_then_same p sets (Signal body) refl next)
 
   pub destination_goes :
       {body : DestinationBody} {q : Progress} {sets' : List ℕ} → Turned plan at p sizes sets (record { found = Destination body; next = behind }) next
-      → next ≡ Go q → sets' ≡ sets_then next p sets (Destination body) → Stands plan behind q sizes sets'
+      → next ≡ Ok q → sets' ≡ sets_then next p sets (Destination body) → Stands plan behind q sizes sets'
   unfolding sizes_after
   destination_goes {body} t go et = goes t go (sizes_then_same p sizes (Destination body) refl next) t.here.stood.tables et
 
 -- ---- any other record leaves the sets
 
-module _ {plan : List ℕ} {at : ℕ} {p : Progress} {sizes sets : List ℕ} {read : Step} {next : Next} (t : Turned plan at p sizes sets read next)
+module _ {plan : List ℕ} {at : ℕ} {p : Progress} {sizes sets : List ℕ} {read : Step} {next : Result Progress BadRecord} (t : Turned plan at p sizes sets read next)
     (other : follower_of read.found ≡ follower.Other) where
   pub other_goes :
-      {q : Progress} {sizes' : List ℕ} → next ≡ Go q → sizes' ≡ sizes_then next p sizes read.found → Tables sizes'
+      {q : Progress} {sizes' : List ℕ} → next ≡ Ok q → sizes' ≡ sizes_then next p sizes read.found → Tables sizes'
       → Stands plan read.next q sizes' sets
   other_goes go es tables = goes t go es tables (sets_other p sets read.found other next)
 
-  pub other_refuses : {a : Reason} {n : ℕ} → next ≡ Refuse a n → (Refused a n ≡ check_plan plan) × (sets ≡ sets_of plan)
+  pub other_refuses : {bad : BadRecord} → next ≡ Err bad → (Refused bad.reason bad.record_number ≡ check_plan plan) × (sets ≡ sets_of plan)
   other_refuses stop = refuses t stop (sets_other p sets read.found other next)
 
 -- ---- a good plan's sets are those that all its records leave
 
 good_step :
-    (next : Next) (v : Verdict) (sets rest all : List ℕ) (n t x : ℕ) → verdict_of next v ≡ Good n t x → (v ≡ Good n t x → rest ≡ all)
+    (next : Result Progress BadRecord) (v : Verdict) (sets rest all : List ℕ) (n t x : ℕ) → verdict_of next v ≡ Good n t x → (v ≡ Good n t x → rest ≡ all)
     → sets_unless next sets rest ≡ all
 unfolding verdict_of sets_unless
-good_step (Go q) v sets rest all n t x e more = more e
-good_step (Refuse a k) v sets rest all n t x e more = absurd (differ cc)
+good_step (Ok q) v sets rest all n t x e more = more e
+good_step (Err bad) v sets rest all n t x e more = absurd (differ cc)
 
 pub sets_good :
     (p : Progress) (sizes sets : List ℕ) (rs : List Record) (n t x : ℕ) → check_on p sizes sets rs ≡ Good n t x

@@ -1,5 +1,5 @@
 -- The check of a plan, in document 01's own order.
-use Rattle.std.specs.Prelude.{ℕ, ◌+◌, Bool, List, [], ◌∷◌, eqb, get_or, set, replicate}
+use Rattle.std.specs.Prelude.{ℕ, ◌+◌, Bool, List, [], ◌∷◌, eqb, get_or, set, replicate, if◌then◌else◌, Result, Ok, Err}
 use Rattle.base.specs.Pick.{pick}
 use Rattle.bits.specs.Owners.{owned}
 use Rattle.records.specs.declared.record.Fault.{Fault}
@@ -10,22 +10,29 @@ use Rattle.records.specs.Records.{records}
 use Rattle.plan.specs.Limits.{most_tx}
 use Rattle.plan.specs.declared.verdict.Reason.{Reason}
 use Rattle.plan.specs.declared.verdict.Reason.TheVariants.{Short, Kind, Place, Count, Range, Order, Data, Owner, Indicator}
+use Rattle.plan.specs.declared.verdict.BadRecord.{BadRecord}
 use Rattle.plan.specs.declared.verdict.Verdict.{Verdict}
 use Rattle.plan.specs.declared.verdict.Verdict.TheVariants.{Good, Refused}
 use Rattle.plan.specs.declared.progress.RowSoFar.{RowSoFar}
 use Rattle.plan.specs.declared.progress.Progress.{Progress}
-use Rattle.plan.specs.declared.progress.Next.{Next}
-use Rattle.plan.specs.declared.progress.Next.TheVariants.{Go, Refuse}
 use Rattle.plan.specs.Progress.{row_after, after, start}
 use Rattle.plan.specs.Tests.{followed, is_kind, is_whole, may_stand, can_first, has_room, in_range, fits_node, rises, in_data, is_free}
 use Rattle.plan.specs.Tests.{indicator_in_data, indicator_is_free}
 
--- a test that must be passed, and what comes after it
-unfoldable pub need : Bool → Reason → ℕ → Next → Next
-need test reason number rest = pick test rest (Refuse reason number)
+-- a plan that is refused for a reason, at a record
+abbrev pub refused_at : {A : Type 0} → Reason → ℕ → Result A BadRecord
+refused_at reason number = Err (record { reason = reason; record_number = number })
+
+-- a test that must be passed
+abbrev pub required : Bool → Reason → ℕ → Result (Unit {0}) BadRecord
+required test reason number = if test then Ok tt else refused_at reason number
+
+-- and what comes after it
+unfoldable pub need : Bool → Reason → ℕ → Result Progress BadRecord → Result Progress BadRecord
+need test reason number rest = pick test rest (refused_at reason number)
 
 -- "then 2, 1, 3, 4, 5, 6, 7, 8. At a destination, 7 and 8 for itself, then 9 and 8 for the failure bit, all naming the destination."
-unfoldable pub placed : Progress → List ℕ → List ℕ → Record → Next
+unfoldable pub placed : Progress → List ℕ → List ℕ → Record → Result Progress BadRecord
 placed p sizes sets r =
     need (may_stand p.stage r) Place p.number
     (need (can_first p.counts r) Place p.number
@@ -37,10 +44,10 @@ placed p sizes sets r =
     (need (is_free p.row sets r) Owner p.number
     (need (indicator_in_data p.row sizes r) Indicator p.number
     (need (indicator_is_free p.row sets r) Owner p.number
-    (Go (after p r)))))))))))
+    (Ok (after p r)))))))))))
 
 -- "At each record, or the end, the missing-follower half of 9 is tried first and names the Rx frame's record; then 2, 1, .."
-unfoldable pub judged : Progress → List ℕ → List ℕ → Record → Next
+unfoldable pub judged : Progress → List ℕ → List ℕ → Record → Result Progress BadRecord
 judged p sizes sets r =
     need (followed p.row (stage_of r)) Indicator p.row.source
     (need (is_kind r) Kind p.number
@@ -75,9 +82,9 @@ ended p =
     (Refused Indicator p.row.source)
 
 -- a refusal ends the check
-unfoldable pub verdict_of : Next → Verdict → Verdict
-verdict_of (Go q) rest = rest
-verdict_of (Refuse reason number) rest = Refused reason number
+unfoldable pub verdict_of : Result Progress BadRecord → Verdict → Verdict
+verdict_of (Ok q) rest = rest
+verdict_of (Err bad) rest = Refused bad.reason bad.record_number
 
 -- "The first bad record decides."
 unfoldable pub check_on : Progress → List ℕ → List ℕ → List Record → Verdict
@@ -89,9 +96,9 @@ unfoldable pub check_plan : List ℕ → Verdict
 check_plan plan = check_on start (replicate most_tx 0) (replicate most_tx 0) (records plan)
 
 -- where a record is refused, the sets of owned bits stay as they are
-unfoldable pub sets_unless : Next → List ℕ → List ℕ → List ℕ
-sets_unless (Go q) sets rest = rest
-sets_unless (Refuse reason number) sets rest = sets
+unfoldable pub sets_unless : Result Progress BadRecord → List ℕ → List ℕ → List ℕ
+sets_unless (Ok q) sets rest = rest
+sets_unless (Err bad) sets rest = sets
 
 -- the sets of owned bits when the check ends
 unfoldable pub sets_on : Progress → List ℕ → List ℕ → List Record → List ℕ

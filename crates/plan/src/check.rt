@@ -1,20 +1,20 @@
 // The check of a plan, from its first record to the first bad one or the end.
+#![tactic(auto, unfolding(crate::specs::Progress::start, crate::specs::Check::judged, crate::specs::Check::need, crate::specs::Check::fault_reason, base::specs::Pick::pick, crate::specs::Tests::is_kind, crate::specs::Tests::is_whole, crate::specs::Tests::followed, crate::specs::Check::sizes_after, crate::specs::Check::sets_after, records::specs::Kinds::stage_of, records::specs::Reading::follower_of))]
+
 ghost use Rattle.std.specs.Prelude.{◌≡◌, [], length, replicate};
 ghost use Rattle.records.specs.declared.record.Record.TheVariants.{Signal, Destination};
 ghost use Rattle.records.specs.declared.record.Follower.TheVariants.{Other};
 ghost use Rattle.records.specs.Reading.{follower_of};
 ghost use Rattle.plan.specs.declared.verdict.Reason.TheVariants.{Indicator};
-ghost use Rattle.plan.specs.declared.progress.Next.TheVariants.{Refuse};
 ghost use Rattle.plan.specs.Limits.{most_tx};
 ghost use Rattle.plan.specs.Progress.{start};
 ghost use Rattle.plan.specs.Tests.{followed};
-ghost use Rattle.plan.specs.Check.{fault_reason, judged, ended, check_plan, sets_of};
+ghost use Rattle.plan.specs.Check.{required, fault_reason, judged, ended, check_plan, sets_of};
 ghost use Rattle.plan.specs.Motion.{Fair, Tables, sizes_then, sets_then};
 
 use crate::limits::MOST_TX;
-use crate::progress::{Counts, Next, Progress, RowSoFar};
-use crate::steps;
-use crate::verdict::{Reason, Verdict};
+use crate::progress::{Progress, RowSoFar};
+use crate::verdict::{BadRecord, Reason, Verdict};
 use records::decode::{
     DESTINATION_BYTES, DESTINATION_STAGE, SIGNAL_BYTES, SIGNAL_STAGE, follower_at, stage_of,
 };
@@ -39,55 +39,57 @@ fn is_followed(row: RowSoFar, stage: u8) -> bool
 }
 
 // A missing follower is refused by the number of the Rx frame's record.
-fn missing(row: RowSoFar) -> Next
-    ensures { result ≡ Refuse Indicator row.source }
+fn require_follower(row: RowSoFar, stage: u8) -> Result<(), BadRecord>
+    ensures { result ≡ required (followed row stage) Indicator row.source }
 {
-    Next::Refuse {
-        reason: Reason::Indicator,
-        record: row.source,
+    if is_followed(row, stage) {
+        Ok(())
+    } else {
+        Err(BadRecord {
+            reason: Reason::Indicator,
+            record_number: row.source,
+        })
     }
 }
 
 // One record: the missing follower first, then what the kind asks. Each kind's step is called at one place, so that it becomes part of the loop.
-fn judge_signal(p: Progress, body: SignalBody) -> Next
+fn judge_signal(p: Progress, body: SignalBody) -> Result<Progress, BadRecord>
     requires { Fair p }
     ensures { result ≡ judged p [] [] (Signal body) }
 {
-    if !is_followed(p.row, SIGNAL_STAGE) {
-        return missing(p.row);
-    }
-    steps::signal_step(p, body)
+    require_follower(p.row, SIGNAL_STAGE)?;
+    p.signal_step(body)
 }
 
-fn judge_destination(p: Progress, body: DestinationBody, sizes: &[u8], sets: &mut [u64]) -> Next
+fn judge_destination(
+    p: Progress,
+    body: DestinationBody,
+    sizes: &[u8],
+    sets: &mut [u64],
+) -> Result<Progress, BadRecord>
     requires { (Fair p) × (Tables sizes.now) × (length sets.old ≡ most_tx) }
     ensures next { result ≡ judged p sizes.now sets.old (Destination body) }
     ensures sets { sets.new ≡ sets_then result p sets.old (Destination body) }
 {
-    if !is_followed(p.row, DESTINATION_STAGE) {
-        return missing(p.row);
-    }
-    steps::destination_step(p, body, sizes, sets)
+    require_follower(p.row, DESTINATION_STAGE)?;
+    p.destination_step(body, sizes, sets)
 }
 
 // A record that is no signal and no destination.
-fn judge_other(p: Progress, r: Record, sizes: &mut [u8]) -> Next
+fn judge_other(p: Progress, r: Record, sizes: &mut [u8]) -> Result<Progress, BadRecord>
     requires { (Fair p) × (Tables sizes.old) × (follower_of r ≡ Other) }
     ensures next { result ≡ judged p [] [] r }
     ensures sizes { (sizes.new ≡ sizes_then result p sizes.old r) × (Tables sizes.new) }
 {
-    if !is_followed(p.row, stage_of(r)) {
-        return missing(p.row);
-    }
+    require_follower(p.row, stage_of(r))?;
     match r {
-        Record::Head { order } => steps::head_step(p, order),
-        Record::Node(body) => steps::node_step(p, body),
-        Record::Tx(frame) => steps::tx_step(p, frame, sizes),
-        Record::Rx(frame) => steps::rx_step(p, frame),
-        Record::Broken(fault) => steps::refuse(p, fault_reason(fault)),
+        Record::Head { order } => p.head_step(order),
+        Record::Node(body) => p.node_step(body),
+        Record::Tx(frame) => p.tx_step(frame, sizes),
+        Record::Rx(frame) => p.rx_step(frame),
+        Record::Broken(fault) => Err(p.refuse(fault_reason(fault))),
         // these two are judged above, and do not come here
-        Record::Signal(_) => missing(p.row),
-        Record::Destination(_) => missing(p.row),
+        Record::Signal(_) | Record::Destination(_) => Err(p.refuse(Reason::Kind)),
     }
 }
 
@@ -120,30 +122,7 @@ fn end(p: Progress) -> Verdict
 fn begin() -> Progress
     ensures { result ≡ start }
 {
-    let counts = Counts {
-        nodes: 0,
-        can: 0,
-        tx: 0,
-        rx: 0,
-        signals: 0,
-        destinations: 0,
-    };
-    let row = RowSoFar {
-        floor: 0,
-        room: 0,
-        signals: 0,
-        size: 0,
-        destinations: 0,
-        awaits: 0,
-        position: 0,
-        source: 0,
-    };
-    Progress {
-        number: 0,
-        stage: 0,
-        counts,
-        row,
-    }
+    Progress::default()
 }
 
 // Whether a plan is good, with its counts; or why it is refused, with the number of the record. `sets` becomes the sets of owned bits, one for
@@ -162,24 +141,30 @@ pub fn check_with(plan: &[u8], sets: &mut [u64]) -> Verdict
             Follower::Signal(body) => {
                 let next = judge_signal(p, body);
                 match next {
-                    Next::Go(q) => {
+                    Ok(q) => {
                         p = q;
                         at = at + SIGNAL_BYTES;
                     }
-                    Next::Refuse { reason, record } => {
-                        return Verdict::Refused { reason, record };
+                    Err(bad) => {
+                        return Verdict::Refused {
+                            reason: bad.reason,
+                            record: bad.record_number,
+                        };
                     }
                 }
             }
             Follower::Destination(body) => {
                 let next = judge_destination(p, body, &sizes, sets);
                 match next {
-                    Next::Go(q) => {
+                    Ok(q) => {
                         p = q;
                         at = at + DESTINATION_BYTES;
                     }
-                    Next::Refuse { reason, record } => {
-                        return Verdict::Refused { reason, record };
+                    Err(bad) => {
+                        return Verdict::Refused {
+                            reason: bad.reason,
+                            record: bad.record_number,
+                        };
                     }
                 }
             }
@@ -188,12 +173,15 @@ pub fn check_with(plan: &[u8], sets: &mut [u64]) -> Verdict
                 let found = read.found;
                 let next = judge_other(p, found, &mut sizes);
                 match next {
-                    Next::Go(q) => {
+                    Ok(q) => {
                         p = q;
                         at = read.next;
                     }
-                    Next::Refuse { reason, record } => {
-                        return Verdict::Refused { reason, record };
+                    Err(bad) => {
+                        return Verdict::Refused {
+                            reason: bad.reason,
+                            record: bad.record_number,
+                        };
                     }
                 }
             }

@@ -1,8 +1,6 @@
 // How far the check has come.
-use crate::verdict::Reason;
-
 // How many records of each kind were read.
-#[derive(Clone, Copy)]
+#[derive(Clone, Copy, Debug, Default, PartialEq, Eq)]
 pub struct Counts {
     pub nodes: usize,
     // how many of the nodes are CAN nodes; the LIN nodes follow them
@@ -14,7 +12,7 @@ pub struct Counts {
 }
 
 // The Rx frame that is being read.
-#[derive(Clone, Copy)]
+#[derive(Clone, Copy, Debug, Default, PartialEq, Eq)]
 pub struct RowSoFar {
     // the lowest key that the next Rx frame may have
     pub floor: usize,
@@ -30,7 +28,7 @@ pub struct RowSoFar {
     pub source: usize,
 }
 
-#[derive(Clone, Copy)]
+#[derive(Clone, Copy, Debug, Default, PartialEq, Eq)]
 pub struct Progress {
     // the number of the next record
     pub number: usize,
@@ -38,11 +36,4 @@ pub struct Progress {
     pub stage: u8,
     pub counts: Counts,
     pub row: RowSoFar,
-}
-
-// What a record does: the check goes on, or the plan is refused.
-#[derive(Clone, Copy)]
-pub enum Next {
-    Go(Progress),
-    Refuse { reason: Reason, record: usize },
 }

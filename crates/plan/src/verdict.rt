@@ -1,7 +1,7 @@
 // What the check of a plan answers.
 
 // Why a plan is refused, in the order of document 01's numbers 1 to 9.
-#[derive(Clone, Copy)]
+#[derive(Clone, Copy, Debug, PartialEq, Eq, PartialOrd, Ord)]
 pub enum Reason {
     // 1: the input is empty, or the record runs past its end
     Short,
@@ -23,7 +23,14 @@ pub enum Reason {
     Indicator,
 }
 
-#[derive(Clone, Copy)]
+// A plan that is refused: why, and the number of the record that is named.
+#[derive(Clone, Copy, Debug, PartialEq, Eq)]
+pub struct BadRecord {
+    pub reason: Reason,
+    pub record_number: usize,
+}
+
+#[derive(Clone, Copy, Debug, PartialEq, Eq)]
 pub enum Verdict {
     Good { nodes: usize, tx: usize, rx: usize },
     Refused { reason: Reason, record: usize },

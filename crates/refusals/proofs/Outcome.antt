@@ -5,11 +5,11 @@ use mathlib.Core.Bool.{Bool, true, false, not}
 use mathlib.Core.List.{List, [], ◌∷◌, ◌++◌, append-nil, append_assoc}
 use Prim.Native.Nat.{ℕ}
 use lib.Dec.{eqb}
+use Rattle.std.specs.Prelude.{Ok}
 use Rattle.base.specs.Pick.{pick}
 use Rattle.records.specs.declared.record.Record.{Record}
 use Rattle.records.specs.Records.{records}
 use Rattle.plan.specs.declared.progress.Progress.{Progress}
-use Rattle.plan.specs.declared.progress.Next.TheVariants.{Go}
 use Rattle.plan.specs.declared.verdict.Reason.{Reason}
 use Rattle.plan.specs.declared.verdict.Reason.TheVariants.{Short, Indicator}
 use Rattle.plan.specs.declared.verdict.Verdict.TheVariants.{Good, Refused}
@@ -40,7 +40,7 @@ none_bad rs g before r rest e =
 -- one record more
 all_more :
     (before : List Record) (r : Record) → AllGo begun before
-    → judged_in (state_after begun before) r ≡ Go (after (state_after begun before).progress r) → AllGo begun (before ++ r ∷ [])
+    → judged_in (state_after begun before) r ≡ Ok (after (state_after begun before).progress r) → AllGo begun (before ++ r ∷ [])
 unfolding AllGo
 all_more before r g e = all_joined before (r ∷ []) begun g (e, tt)
 
@@ -60,7 +60,7 @@ ended_at p = go (followed p.row 0) (eqb p.number 0)
   where
     go : (x y : Bool)
         → pick x (pick y (Refused Short 0) (Good p.counts.nodes p.counts.tx p.counts.rx)) (Refused Indicator p.row.source)
-        ≡ verdict_of (need x Indicator p.row.source (need (not y) Short 0 (Go p))) (Good p.counts.nodes p.counts.tx p.counts.rx)
+        ≡ verdict_of (need x Indicator p.row.source (need (not y) Short 0 (Ok p))) (Good p.counts.nodes p.counts.tx p.counts.rx)
     go true true = unfold pick in refl
     go true false = unfold pick in refl
     go false y = unfold pick in refl
@@ -92,7 +92,7 @@ module _ (plan : List ℕ) where
   -- ---- and one of the two is so: the table refuses the plan, or the check calls it good
 
   counted_good :
-      AllGo begun (records plan) → next_at_end end ≡ Go end
+      AllGo begun (records plan) → next_at_end end ≡ Ok end
       → check_plan plan ≡ Good (count_of 2 (records plan)) (count_of 3 (records plan)) (count_of 4 (records plan))
   unfolding verdict_of end
   counted_good g e =

@@ -3,6 +3,7 @@ use mathlib.Core.Path.{◌≡◌, refl}
 use mathlib.Core.Bool.{true}
 use mathlib.Core.List.{List, [], ◌∷◌, ◌++◌}
 use Prim.Native.Nat.{ℕ}
+use Rattle.std.specs.Prelude.{Ok}
 use Rattle.records.specs.declared.record.NodeBody.{NodeBody}
 use Rattle.records.specs.declared.record.SignalBody.{SignalBody}
 use Rattle.records.specs.declared.record.DestinationBody.{DestinationBody}
@@ -12,7 +13,6 @@ use Rattle.records.specs.declared.record.Record.{Record}
 use Rattle.records.specs.declared.record.Record.TheVariants.{Head, Node, Tx, Rx, Signal, Destination, Broken}
 use Rattle.plan.specs.declared.progress.Counts.{Counts}
 use Rattle.plan.specs.declared.progress.RowSoFar.{RowSoFar}
-use Rattle.plan.specs.declared.progress.Next.TheVariants.{Go}
 use Rattle.plan.specs.Progress.{after}
 use Rattle.plan.specs.Tests.{is_kind, is_whole}
 use Rattle.plan.proofs.CheckLaws.{Passed, passed}
@@ -54,7 +54,7 @@ stage_in s = s.progress.stage
 abbrev pub PassedIn : State → Record → Type 0
 PassedIn s r = Passed s.progress s.sizes s.sets r
 
-pub went : (s : State) (r : Record) → judged_in s r ≡ Go (after s.progress r) → PassedIn s r
+pub went : (s : State) (r : Record) → judged_in s r ≡ Ok (after s.progress r) → PassedIn s r
 went s r e = (passed s.progress s.sizes s.sets r _ e).0
 
 pub all_whole : (rs : List Record) (s : State) → AllGo s rs → Each Whole rs

@@ -9,20 +9,20 @@ use native.Mathlib.Omega.{arith}
 use lib.Dec.{eqb}
 use lib.ListN.{length}
 use borrow.Author.Tests.{eq-eqb, eqb-true, not-false}
+use Rattle.std.specs.Prelude.{Result, Ok, Err}
 use Rattle.base.specs.Pick.{pick}
 use Rattle.records.specs.declared.record.Record.{Record}
 use Rattle.records.specs.declared.record.Record.TheVariants.{Broken}
 use Rattle.records.specs.declared.record.Fault.TheVariants.{End}
 use Rattle.records.specs.Kinds.{stage_of}
 use Rattle.plan.specs.declared.progress.Progress.{Progress}
-use Rattle.plan.specs.declared.progress.Next.{Next}
-use Rattle.plan.specs.declared.progress.Next.TheVariants.{Go, Refuse}
+use Rattle.plan.specs.declared.verdict.BadRecord.{BadRecord}
 use Rattle.plan.specs.declared.verdict.Reason.{Reason}
 use Rattle.plan.specs.declared.verdict.Reason.TheVariants.{Short, Indicator}
 use Rattle.plan.specs.Refusals.{number_of}
 use Rattle.plan.specs.Progress.{after}
 use Rattle.plan.specs.Tests.{followed}
-use Rattle.plan.specs.Check.{need, placed, judged}
+use Rattle.plan.specs.Check.{refused_at, need, placed, judged}
 use Rattle.facts.specs.Statements.{State, judged_in}
 use Rattle.refusals.specs.Table.{Line, First, table, end_table}
 use Rattle.refusals.proofs.Passing.{whole}
@@ -36,36 +36,36 @@ use Rattle.refusals.proofs.OrderLine.{order}
 use Rattle.refusals.proofs.DataLines.{data_fits, owner}
 use Rattle.refusals.proofs.FailureLines.{failure_fits, failure_owner}
 
-abbrev pub RefusesWith : Next → ℕ → ℕ → Type 0
-RefusesWith next number named = (reason : Reason) × (next ≡ Refuse reason named) × (number_of reason ≡ number)
+abbrev pub RefusesWith : Result Progress BadRecord → ℕ → ℕ → Type 0
+RefusesWith next number named = (reason : Reason) × (next ≡ refused_at reason named) × (number_of reason ≡ number)
 
-pub record Told (next : Next) (go : Progress) (lines : List Line) : Type 1 where
-  pub goes : (next ≡ Go go) ⊎ ((reason : Reason) × (named : ℕ) × (next ≡ Refuse reason named))
-  pub passes : next ≡ Go go → (number named : ℕ) → First lines number named → ⊥
-  pub says : (reason : Reason) (named : ℕ) → next ≡ Refuse reason named → First lines (number_of reason) named
+pub record Told (next : Result Progress BadRecord) (go : Progress) (lines : List Line) : Type 1 where
+  pub goes : (next ≡ Ok go) ⊎ ((reason : Reason) × (named : ℕ) × (next ≡ refused_at reason named))
+  pub passes : next ≡ Ok go → (number named : ℕ) → First lines number named → ⊥
+  pub says : (reason : Reason) (named : ℕ) → next ≡ refused_at reason named → First lines (number_of reason) named
   pub back : (number named : ℕ) → First lines number named → RefusesWith next number named
 
 -- ---- what a record leads to is one thing
 
-is_go : Next → ℕ
-is_go (Go q) = 1
-is_go (Refuse reason named) = 0
+is_go : Result Progress BadRecord → ℕ
+is_go (Ok q) = 1
+is_go (Err bad) = 0
 
-pub not_both : {x : Next} {go : Progress} {reason : Reason} {named : ℕ} → x ≡ Go go → x ≡ Refuse reason named → ⊥
+pub not_both : {x : Result Progress BadRecord} {go : Progress} {reason : Reason} {named : ℕ} → x ≡ Ok go → x ≡ refused_at reason named → ⊥
 unfolding is_go
 not_both e f = let z : ◌≡◌ {A = ℕ} 1 0 = ap is_go (sym e ∙ f) in omega arith
 
-reason_of : Next → Reason
-reason_of (Go q) = Short
-reason_of (Refuse reason named) = reason
+reason_of : Result Progress BadRecord → Reason
+reason_of (Ok q) = Short
+reason_of (Err bad) = bad.reason
 
-named_by : Next → ℕ
-named_by (Go q) = 0
-named_by (Refuse reason named) = named
+named_by : Result Progress BadRecord → ℕ
+named_by (Ok q) = 0
+named_by (Err bad) = bad.record_number
 
 -- ---- the lines, from the last to the first
 
-Told-none : (go : Progress) → Told (Go go) go []
+Told-none : (go : Progress) → Told (Ok go) go []
 unfolding First
 Told-none go =
     record {
@@ -75,7 +75,7 @@ Told-none go =
       back = λ number named w. absurd w;
     }
 
-Told-need : (t : Bool) (why : Reason) (at : ℕ) {rest : Next} {go : Progress} (line : Line) {lines : List Line} → Fails t line.when
+Told-need : (t : Bool) (why : Reason) (at : ℕ) {rest : Result Progress BadRecord} {go : Progress} (line : Line) {lines : List Line} → Fails t line.when
     → number_of why ≡ line.number → ((w : line.when) → line.names w ≡ at) → (t ≡ true → Told rest go lines)
     → Told (need t why at rest) go (line ∷ lines)
 unfolding need pick First reason_of named_by
@@ -119,8 +119,8 @@ told before s h r =
 
 -- ---- the end, as a record of its own
 
-abbrev pub next_at_end : Progress → Next
-next_at_end p = need (followed p.row 0) Indicator p.row.source (need (not (eqb p.number 0)) Short 0 (Go p))
+abbrev pub next_at_end : Progress → Result Progress BadRecord
+next_at_end p = need (followed p.row 0) Indicator p.row.source (need (not (eqb p.number 0)) Short 0 (Ok p))
 
 empty : (before : List Record) (s : State) → SoFar before s → Fails (not (eqb s.progress.number 0)) (before ≡ [])
 empty before s h =

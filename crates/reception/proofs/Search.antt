@@ -1,6 +1,5 @@
--- The cases of the search, that looks to spare change nothing, that a found number is one of the rows', and what the number says that a node's
--- search answers.
-use mathlib.Core.Path.{◌≡◌, refl, sym, ap, ◌∙◌}
+-- The cases of the search, that looks to spare change nothing, that a found number is one of the rows', and what a node's search answers.
+use mathlib.Core.Path.{◌≡◌, sym, ◌∙◌}
 use mathlib.Core.Logic.{⊎_elim}
 use mathlib.Core.List.{List}
 use Prim.Native.Nat.{ℕ, zero, suc, ◌+◌, ◌-◌, ◌/◌, ◌<◌, ◌≤◌, zero-le}
@@ -17,7 +16,7 @@ use Rattle.area.specs.Layout.{row_bound, first_row, row_count, key_at}
 use Rattle.records.specs.declared.record.RxNumber.{RxNumber}
 use Rattle.reception.specs.declared.lookup.Found.{Found}
 use Rattle.reception.specs.declared.lookup.Found.TheVariants.{At, Nothing}
-use Rattle.reception.specs.Lookup.{look_once, look_in, looked_up, beyond, row_number}
+use Rattle.reception.specs.Lookup.{look_once, look_in, looked_up}
 
 -- the row that is looked at: the middle of those that remain
 abbrev pub middle : ℕ → ℕ → ℕ → ℕ
@@ -136,31 +135,13 @@ unfolding looked_up Among
 place_small a n id place e =
     let most : place ≤ 0 + row_count a n = rw e at (among (row_count a n + 1) a (first_row a n) 0 (row_count a n) (key_of id)) in omega arith
 
--- what the number says that it answers: of 32 bits it is the row's that was found, and else it says the place
-number_found : (f : Found) (r : ℕ) → r ≡ row_number f → r < beyond → At (record { 0 = r }) ≡ f
-unfolding row_number
-number_found (At x) r e l = λ i. At (record { 0 = e i })
-number_found (Nothing place) r e l = absurd (omega arith)
-
-number_lost : (f : Found) (r : ℕ) → r ≡ row_number f → beyond ≤ r → ((x : RxNumber) → f ≡ At x → x.0 < row_bound) → Nothing (r / beyond / 2) ≡ f
-unfolding row_number
-number_lost (At x) r e l h = let b = h x refl in absurd (omega arith)
-number_lost (Nothing place) r e l h = ap Nothing (omega arith)
-
-module _ (a : List ℕ) (n : ℕ) (id : Id) (count first r key : ℕ) (c : count ≡ row_count a n) (f : first ≡ first_row a n) (k : key ≡ key_of id) where
-  module _ (e : r ≡ row_number (look_in (count + 1) a first (first - first) count key)) where
-    number : r ≡ row_number (looked_up a n id)
-    unfolding looked_up
-    number = let left : first - first ≡ 0 = omega arith in rw (← c, ← f, ← k) (rw left at e)
-
-    abbrev Says : Found → Type 0
-    Says f = (f ≡ looked_up a n id) × ((x : RxNumber) → f ≡ At x → x.0 < row_bound)
-
-    says : (f : Found) → f ≡ looked_up a n id → Says f
-    says f w = (w, λ x v. found_small a n id x (sym w ∙ v))
-
-    pub looked_found : r < beyond → Says (At (record { 0 = r }))
-    looked_found l = says _ (number_found (looked_up a n id) r number l)
-
-    pub looked_lost : beyond ≤ r → Says (Nothing (r / beyond / 2))
-    looked_lost l = says _ (number_lost (looked_up a n id) r number l (found_small a n id))
+module _ (a : List ℕ) (n : ℕ) (id : Id) (count first key : ℕ) (c : count ≡ row_count a n) (f : first ≡ first_row a n) (k : key ≡ key_of id) where
+  -- what was found among the node's rows is what the search of them says
+  pub says :
+      (found : Found) → found ≡ look_in (count + 1) a first (first - first) count key
+      → (found ≡ looked_up a n id) × ((x : RxNumber) → found ≡ At x → x.0 < row_bound)
+  unfolding looked_up
+  says found e =
+      let left : first - first ≡ 0 = omega arith in
+      let same : found ≡ looked_up a n id = rw (← c, ← f, ← k) (rw left at e) in
+      (same, λ x v. found_small a n id x (sym same ∙ v))

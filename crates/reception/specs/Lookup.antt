@@ -1,6 +1,6 @@
 -- "Lookup searches that node's rows only, as 001 does: the middle row first, and the half that remains is searched by the same rule." "A lookup that
 -- finds nothing should say how many of that node's rows have a smaller ID" (document 02, Ticket 4): those that the search left behind.
-use Rattle.std.specs.Prelude.{ℕ, zero, suc, ◌+◌, ◌-◌, ◌*◌, ◌/◌, List, eqb, ltb}
+use Rattle.std.specs.Prelude.{ℕ, zero, suc, ◌+◌, ◌-◌, ◌/◌, List, Result, Ok, Err, eqb, ltb}
 use Rattle.base.specs.Pick.{pick}
 use Rattle.records.specs.declared.record.Id.{Id}
 use Rattle.records.specs.Ids.{key_of}
@@ -27,13 +27,10 @@ look_in (suc looks) a first place n key = look_once (λ left remaining. look_in 
 unfoldable pub looked_up : List ℕ → ℕ → Id → Found
 looked_up a n id = look_in (row_count a n + 1) a (first_row a n) 0 (row_count a n) (key_of id)
 
--- what was found as a plain number: the row's, or for a place an odd multiple of what no row reaches
-abbrev pub beyond : ℕ
-beyond = 4294967296
-
-unfoldable pub row_number : Found → ℕ
-row_number (At x) = x.0
-row_number (Nothing place) = (2 * place + 1) * beyond
+-- the row whose number the search answers, or else the place
+unfoldable pub found_of : Result ℕ ℕ → Found
+found_of (Ok r) = At (record { 0 = r })
+found_of (Err place) = Nothing place
 
 unfoldable pub place_in : Found → ℕ
 place_in (At x) = 0

@@ -3,14 +3,10 @@ ghost use Rattle.std.specs.Prelude.{◌≡◌, ◌+◌, ◌-◌, ◌≤◌, ◌<
 ghost use Rattle.area.specs.Layout.{row_bound, LongEnough};
 ghost use Rattle.records.specs.declared.record.RxNumber.{RxNumber};
 ghost use Rattle.reception.specs.declared.lookup.Found.TheVariants.{At};
-ghost use Rattle.reception.specs.Lookup.{look_in, looked_up, row_number, place_in};
+ghost use Rattle.reception.specs.Lookup.{found_of, look_in, looked_up, place_in};
 
 use area::rows::{first_row, key_at, row_count};
 use records::record::{Id, RxNumber};
-
-// `look` answers a row's number as it is, and for a place an odd multiple of this, which no row reaches. The compiler sees which of the two it is, and
-// tests nothing.
-const BEYOND: usize = 4294967296;
 
 #[derive(Clone, Copy)]
 pub enum Found {
@@ -21,6 +17,7 @@ pub enum Found {
 
 impl Found {
     // How many of the node's rows have a smaller ID, where none has the ID itself.
+    #[tactic(auto, unfolding(crate::specs::Lookup::place_in))]
     pub fn place(self) -> usize
         ensures { result ≡ place_in self }
     {
@@ -38,32 +35,31 @@ pub fn look_up(area: &[u8], node: usize, id: Id) -> Found
 {
     let n = row_count(area, node);
     let first = first_row(area, node);
-    let r = look(&area, first, first, n, id.key() as u32);
-    if r < BEYOND {
-        return Found::At(RxNumber(r));
-    }
-    Found::Nothing {
-        place: r / BEYOND / 2,
+    match look(area, first, first, n, id.key() as u32) {
+        Ok(r) => Found::At(RxNumber(r as usize)),
+        Err(place) => Found::Nothing {
+            place: place as usize,
+        },
     }
 }
 
 // Of a node's rows, which begin at row `first`, the `n` from row `next` on remain: the middle of these, and then the half that remains. The rows that are
-// left behind have a smaller ID. It hands on a reference to the lent area and answers a plain number: of such a recursion the compiler makes a loop.
-fn look(area: &&[u8], first: usize, next: usize, n: usize, key: u32) -> usize
-    requires { (first ≤ next) × (next + n ≤ row_bound) × LongEnough area.now.now }
-    ensures { result ≡ row_number (look_in (n + 1) area.now.now first (next - first) n key) }
+// left behind have a smaller ID. As a slice's `binary_search` it answers the row's number, or where such a row would stand; of 32 bits, so that the answer
+// goes back in a register, and of the recursion the compiler makes a loop.
+fn look(area: &[u8], first: usize, next: usize, n: usize, key: u32) -> Result<u32, u32>
+    requires { (first ≤ next) × (next + n ≤ row_bound) × LongEnough area.now }
+    ensures { found_of result ≡ look_in (n + 1) area.now first (next - first) n key }
 {
     if n == 0 {
-        return (2 * (next - first) + 1) * BEYOND;
+        return Err((next - first) as u32);
     }
     let m = next + n / 2;
-    let k = key_at(*area, m) as u32;
+    let k = key_at(area, m) as u32;
     if key < k {
         return look(area, first, next, n / 2, key);
     }
     if k < key {
         return look(area, first, m + 1, n - n / 2 - 1, key);
     }
-    // m as it is: the compiler sees that it is below
-    m % BEYOND
+    Ok(m as u32)
 }

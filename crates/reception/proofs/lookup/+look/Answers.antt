@@ -1,17 +1,17 @@
--- `lookup::look` meets its contract: each answer is a case of the search, and the row count falls with each look.
-use mathlib.Core.Path.{◌≡◌, sym, ap, ◌∙◌}
-use Prim.Native.Nat.{◌+◌, ◌-◌, ◌/◌, ◌%◌}
+-- `lookup::look` meets its contract: each answer is a case of the search.
+use mathlib.Core.Path.{◌≡◌, sym, ◌∙◌}
+use Prim.Native.Nat.{◌+◌, ◌-◌, ◌/◌}
 use native.Mathlib.Omega.{arith}
 use Rattle.area.specs.Layout.{key_at}
-use Rattle.reception.specs.Lookup.{beyond, row_number}
+use Rattle.reception.specs.Lookup.{found_of}
 use Rattle.reception.proofs.Search.{none, hit, low, high}
 use Rattle.reception.proofs.lookup.+look.Goals as goal
 
 pub returns-then-n-eq0 : goal.returns-then-n-eq0
-unfolding row_number
+unfolding found_of
 returns-then-n-eq0 t c =
     let v = c.args in
-    sym (ap row_number (none v.area.now.now v.first (v.next - v.first) v.n v.key c.if-n-eq0.true))
+    sym (none v.area.now v.first (v.next - v.first) v.n v.key c.if-n-eq0.true)
 
 pub returns-then-key-k : goal.returns-then-key-k
 returns-then-key-k t c =
@@ -19,7 +19,7 @@ returns-then-key-k t c =
     let e = c.key_at-k.ensures.0 in
     let back : v.first + (v.next - v.first) ≡ v.next = omega arith in
     c.look.ensures
-    ∙ sym (ap row_number (low v.area.now.now v.first (v.next - v.first) v.n v.key c.if-n-eq0.false (rw (back, ← e) c.if-key-k.true)))
+    ∙ sym (low v.area.now v.first (v.next - v.first) v.n v.key c.if-n-eq0.false (rw (back, ← e) c.if-key-k.true))
 
 pub returns-then-k-key : goal.returns-then-k-key
 returns-then-k-key t c =
@@ -28,16 +28,13 @@ returns-then-k-key t c =
     let back : v.first + (v.next - v.first) ≡ v.next = omega arith in
     let left : v.next - v.first + v.n / 2 + 1 ≡ v.next + v.n / 2 + 1 - v.first = omega arith in
     c.look-then-k-key.ensures
-    ∙ sym (ap row_number (rw left at (high v.area.now.now v.first (v.next - v.first) v.n v.key c.if-n-eq0.false
-    (rw (back, ← e) c.if-k-key.true))))
+    ∙ sym (rw left at (high v.area.now v.first (v.next - v.first) v.n v.key c.if-n-eq0.false (rw (back, ← e) c.if-k-key.true)))
 
 pub returns : goal.returns
-unfolding row_number
+unfolding found_of
 returns t c =
     let v = c.args in
     let e = c.key_at-k.ensures.0 in
     let back : v.first + (v.next - v.first) ≡ v.next = omega arith in
-    let same : key_at v.area.now.now (v.next + v.n / 2) ≡ v.key = omega (arith, e, c.if-key-k.false, c.if-k-key.false) in
-    let small : (v.next + v.n / 2) % beyond ≡ v.next + v.n / 2 = omega (arith, c.if-n-eq0.false) in
-    small
-    ∙ sym (ap row_number (rw back at (hit v.area.now.now v.first (v.next - v.first) v.n v.key c.if-n-eq0.false (rw back same))))
+    let same : key_at v.area.now (v.next + v.n / 2) ≡ v.key = omega (arith, e, c.if-key-k.false, c.if-k-key.false) in
+    sym (rw back at (hit v.area.now v.first (v.next - v.first) v.n v.key c.if-n-eq0.false (rw back same)))

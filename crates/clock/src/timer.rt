@@ -2,43 +2,43 @@
 ghost use Rattle.std.specs.Prelude.{◌≡◌};
 ghost use Rattle.clock.specs.Timer.{lowered, stepped, expires};
 
-#[derive(Clone, Copy)]
+#[derive(Clone, Copy, Debug, PartialEq, Eq)]
 pub struct Timer {
     pub reload: u8,
     pub count: u8,
 }
 
 // The answer to a caller whose timer is no record: the new count, and whether it expired.
-#[derive(Clone, Copy)]
+#[derive(Clone, Copy, Debug, PartialEq, Eq)]
 pub struct Stepped {
     pub count: u8,
     pub expired: bool,
 }
 
 // The count after a handling. The branches stand here, so that `step` has none.
+#[tactic(auto, unfolding(crate::specs::Timer::lowered, base::specs::Pick::pick))]
 pub fn lower(reload: u8, count: u8) -> u8
     ensures { result ≡ lowered reload count }
 {
-    if count == 0 {
-        return 0;
+    match count {
+        0 => 0,
+        1 => reload,
+        _ => count - 1,
     }
-    if count == 1 {
-        return reload;
-    }
-    count - 1
 }
 
 // Lowers the timer, reloads it, and says whether it expired.
+#[tactic(auto, unfolding(crate::specs::Timer::stepped, crate::specs::Timer::expires))]
 pub fn step(timer: &mut Timer) -> bool
     ensures { (result ≡ expires timer.old) × (timer.new ≡ stepped timer.old) }
 {
     let count = timer.count;
-    let next = lower(timer.reload, count);
-    timer.count = next;
+    timer.count = lower(timer.reload, count);
     count == 1
 }
 
 // A step for a caller that keeps the two numbers among others, as bytes of an area.
+#[tactic(auto, unfolding(crate::specs::Timer::stepped))]
 pub fn step_timer(reload: u8, count: u8) -> Stepped
     ensures { (result.count ≡ lowered reload count) × (result.expired ≡ expires (record { reload = reload; count = count })) }
 {

@@ -1,14 +1,12 @@
 -- The folded sum of bytes: it is what folding makes of their plain sum.
-use mathlib.Core.Path.{◌≡◌, refl, ap}
+use mathlib.Core.Path.{◌≡◌, refl}
 use mathlib.Core.Logic.{⊎_elim}
 use mathlib.Core.Logic.◌⊎◌.{inl, inr}
 use mathlib.Core.List.{List, [], ◌∷◌}
 use Prim.Native.Nat.{ℕ, zero, suc, ◌+◌, ◌-◌, ◌/◌, ◌%◌, ◌<◌}
-use native.Mathlib.Numerals.{add-one}
 use native.Mathlib.Omega.{arith}
-use lib.ListN.{length, drop}
-use lib.Seq.{drop-cons}
-use Rattle.base.specs.Numbers.{byte_at, Bytes}
+use Rattle.std.specs.List.{fold}
+use Rattle.base.specs.Numbers.{Bytes}
 use Rattle.lin.specs.Checksum.{carried, folded_from, folded, inverted, checksum_of}
 use Rattle.lin.specs.Statements.{KnownChecksum, plain_sum, Folds, FoldedSum}
 
@@ -24,18 +22,17 @@ Folds-from sum (byte ∷ bytes) h b =
     ⊎_elim (λ w. inl (omega arith)) (λ w. inr (omega arith))
     (Folds-from (carried sum byte) bytes (carried_byte sum byte h (b 0)) (λ k. b (suc k)))
 
--- one turn: the byte at a place
-pub folded_step : (sum i : ℕ) (bytes : List ℕ) → i < length bytes
-    → folded_from sum (drop i bytes) ≡ folded_from (carried sum (byte_at bytes i)) (drop (i + 1) bytes)
+folded_from_is : (sum : ℕ) (bytes : List ℕ) → fold carried sum bytes ≡ folded_from sum bytes
 unfolding folded_from
-folded_step sum i bytes h = rw (add-one, drop-cons bytes i 0)
+folded_from_is sum [] = refl
+folded_from_is sum (byte ∷ bytes) = folded_from_is (carried sum byte) bytes
 
 -- the first of the bytes makes no carry
-pub checksum_from : (protected : ℕ) (bytes : List ℕ) → protected < 256 → checksum_of protected bytes ≡ 255 - folded_from protected bytes
+pub checksum_from : (protected : ℕ) (bytes : List ℕ) → protected < 256 → 255 - fold carried protected bytes ≡ checksum_of protected bytes
 unfolding carried folded_from folded inverted checksum_of
 checksum_from protected bytes h =
     let same : (0 + protected) % 256 + (0 + protected) / 256 ≡ protected = omega arith in
-    ap (λ sum. 255 - folded_from sum bytes) same
+    rw (same, folded_from_is protected bytes)
 
 pub folds : (bytes : List ℕ) → Bytes bytes → Folds (plain_sum bytes) (folded bytes)
 unfolding folded

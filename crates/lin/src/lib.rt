@@ -1,13 +1,12 @@
 // What goes over a LIN bus beside the data: the protected identifier and the checksum.
 #![tactic(auto)]
 
-ghost use Rattle.std.specs.Prelude.{◌≡◌, ◌<◌};
+ghost use Rattle.std.specs.Prelude.{◌≡◌};
 ghost use Rattle.lin.specs.Identifier.{protected_of};
 ghost use Rattle.lin.specs.Checksum.{carried, checksum_of};
 
-use base::wide;
-
 // The protected identifier of an ID, of which the low six bits count.
+#[tactic(auto, using(crate::proofs::Identifiers::protected_sums, crate::proofs::Identifiers::xor_four))]
 pub fn protected(id: usize) -> u8
     ensures { result ≡ protected_of id }
 {
@@ -17,23 +16,17 @@ pub fn protected(id: usize) -> u8
 }
 
 // A sum with one byte more.
-fn carry(sum: usize, byte: u8) -> usize
-    requires { sum < 256 }
-    ensures { (result ≡ carried sum byte) × (result < 256) }
+#[tactic(auto, unfolding(crate::specs::Checksum::carried))]
+fn carry(sum: u8, byte: u8) -> u8
+    ensures { result ≡ carried sum byte }
 {
-    let whole = sum + wide(byte);
-    whole % 256 + whole / 256
+    let (low, over) = sum.overflowing_add(byte);
+    if over { low + 1 } else { low }
 }
 
 // The enhanced checksum. The carry is folded at each byte, so that data of any length has a sum.
 pub fn checksum(protected: u8, bytes: &[u8]) -> u8
     ensures { result ≡ checksum_of protected bytes.now }
 {
-    let mut sum = wide(protected);
-    let mut i = 0;
-    while i < bytes.len() {
-        sum = carry(sum, bytes[i]);
-        i += 1;
-    }
-    (255 - sum) as u8
+    !bytes.iter().fold(protected, |sum, byte| carry(sum, *byte))
 }

@@ -23,8 +23,7 @@ fn show_whole(rt: &impl Print) {
     let source = [1, 2, 3, 4, 5, 6, 7, 255];
     let mut kept = [9u8; 8];
     copy_signal(0, &source, 0, 64, &mut kept, 0);
-    for i in 0..8 {
-        let byte = kept[i];
+    for byte in kept {
         print!(rt; "{byte:02x}").is_ok();
     }
     line(rt);
@@ -33,7 +32,7 @@ fn show_whole(rt: &impl Print) {
 // Case 8: whether a timer of prescaler 20 is handled at a tick.
 fn show_handled(rt: &impl Print, tick: usize) {
     let mut now = 0;
-    for n in 0..tick {
+    for _ in 0..tick {
         now = counter::next(now);
     }
     if counter::is_handled(now, 20) {

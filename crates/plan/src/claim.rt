@@ -1,4 +1,6 @@
 // The bits that a destination claims in its Tx frame: its own, and its frame's failure bit where one is awaited.
+#![tactic(auto, unfolding(crate::specs::Claim::claimed, bits::specs::Owners::joined, base::specs::Pick::pick))]
+
 ghost use Rattle.std.specs.Prelude.{◌≡◌, ◌+◌, ◌≤◌, ◌<◌};
 ghost use Rattle.plan.specs.Claim.{claimed};
 

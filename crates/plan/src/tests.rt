@@ -1,4 +1,6 @@
 // Tests of a frame's fields, and what an indicator awaits.
+#![tactic(auto, unfolding(crate::specs::Tests::is_prescaler, crate::specs::Tests::id_in_range, crate::specs::Tests::tx_in_range, crate::specs::Tests::rx_in_range, crate::specs::Tests::is_lin_id, crate::specs::Tests::frame_fits, base::specs::Pick::pick))]
+
 ghost use Rattle.std.specs.Prelude.{◌≡◌, ◌+◌, ◌≤◌, eqb};
 ghost use Rattle.base.specs.Pick.{pick};
 ghost use Rattle.records.specs.Kinds.{signal_stage, destination_stage};

@@ -1,16 +1,24 @@
 -- What an accepted reception and a timer's expiry do to the bits that their Rx frame owns, and to the Tx frames that these stand in.
-use Rattle.std.specs.Prelude.{ℕ, ◌/◌, ◌%◌, Bool, List, [], ◌∷◌, eqb}
+use Rattle.std.specs.Prelude.{ℕ, ◌/◌, ◌%◌, Bool, List, [], ◌∷◌, eqb, ◌==◌, ◌||◌}
 use Rattle.base.specs.Pick.{pick}
 use Rattle.bits.specs.Payload.{set_bit, copied, differs}
 use Rattle.bits.specs.Word.{fitting}
 use Rattle.plan.specs.Rows.{Source, copy, failure, Claim}
 use Rattle.area.specs.Layout.{spot, tx_frame, rx_there, failure_tx}
 use Rattle.area.specs.Queue.{scheduled}
+use Rattle.area.specs.declared.claims.Flags.{Flags}
 
 -- what happens to an Rx frame: a payload is accepted, or its timer expires
 pub data RxEvent : Type 0 where
   accepted : ℕ → List ℕ → RxEvent
   expired : ℕ → RxEvent
+
+-- whether a Tx frame's flags send it at a reception that changes a bit of it, and at one that changes none
+unfoldable pub sends_on_change : Flags → Bool
+sends_on_change flags = (flags.0 % 2 == 1) || (flags.0 / 2 % 2 == 1)
+
+unfoldable pub sends_on_reception : Flags → Bool
+sends_on_reception flags = flags.0 % 2 == 1
 
 -- "the Tx frame is scheduled if flag 1 is set, or flag 2 is set and any destination bit differed from the kept one"
 unfoldable pub sent_if : ℕ → Bool → List ℕ → ℕ → List ℕ

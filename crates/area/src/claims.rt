@@ -4,7 +4,7 @@ ghost use Rattle.base.specs.Numbers.{at_most};
 ghost use Rattle.bits.specs.Word.{Bits, ones_of};
 ghost use Rattle.plan.specs.Rows.{copy};
 ghost use Rattle.area.specs.Layout.{last_place, LongEnough, rx_there};
-ghost use Rattle.area.specs.Claims.{accepted, sent_if, done, failure_written};
+ghost use Rattle.area.specs.Claims.{accepted, sends_on_change, sends_on_reception, sent_if, done, failure_written};
 
 use crate::frames::{failure_tx, rx_enable, rx_position, tx_flags};
 use crate::layout::PAYLOADS_START;
@@ -12,23 +12,45 @@ use crate::queue::schedule;
 use bits::signal::{Signal, put_signal};
 use records::record::TxNumber;
 
-// Tx frame `t` is scheduled where its flags say so: 1 always, 2 where a bit of it changed.
-fn send_if(flags: u8, changed: bool, area: &mut [u8], t: TxNumber)
+// The byte of a Tx frame that says which receptions send it: with flag 1 all, with flag 2 those that change a bit of it. Any byte says something.
+#[derive(Clone, Copy, Debug, PartialEq, Eq)]
+pub struct Flags(pub u8);
+
+impl Flags {
+    #[tactic(auto, unfolding(crate::specs::Claims::sends_on_change))]
+    fn sends_on_change(self) -> bool
+        ensures { result ≡ sends_on_change self }
+    {
+        self.0 % 4 != 0
+    }
+
+    #[tactic(auto, unfolding(crate::specs::Claims::sends_on_reception))]
+    fn sends_on_reception(self) -> bool
+        ensures { result ≡ sends_on_reception self }
+    {
+        self.0 % 2 != 0
+    }
+}
+
+// Tx frame `t` is scheduled where its flags say so.
+#[tactic(auto, unfolding(crate::specs::Claims::sent_if, crate::specs::Claims::sends_on_change, crate::specs::Claims::sends_on_reception, base::specs::Pick::pick))]
+fn send_if(flags: Flags, changed: bool, area: &mut [u8], t: TxNumber)
     requires { (t.0 < 256) × LongEnough area.old }
-    ensures { area.new ≡ sent_if flags changed area.old t.0 }
+    ensures { area.new ≡ sent_if flags.0 changed area.old t.0 }
 {
     if changed {
-        if flags % 4 != 0 {
+        if flags.sends_on_change() {
             schedule(area, t);
         }
     } else {
-        if flags % 2 != 0 {
+        if flags.sends_on_reception() {
             schedule(area, t);
         }
     }
 }
 
 // The failure bit of the Rx frame whose fields begin at `at` becomes `v`, where its indicator is enabled. That schedules nothing.
+#[tactic(auto, unfolding(crate::specs::Claims::failure_written, base::specs::Pick::pick))]
 pub fn write_failure(order: u8, v: u8, area: &mut [u8], at: usize)
     requires { (v < 2) × (at ≤ last_place) × LongEnough area.old }
     ensures bytes { area.new ≡ failure_written order v area.old at }
@@ -49,7 +71,7 @@ pub fn copy_claim(order: u8, signal: Signal, area: &mut [u8], t: TxNumber, q: us
         → area.new ≡ done order (accepted 0 source) area.old
         (record { rx = 0; tx = t.0; at = q; from = copy signal.position signal.size }) }
 {
-    let flags = tx_flags(area, t);
+    let flags = Flags(tx_flags(area, t));
     let place = 8 * PAYLOADS_START + 64 * t.0 + q;
     let changed = put_signal(order, signal, area, place);
     send_if(flags, changed, area, t);

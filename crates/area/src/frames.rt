@@ -46,6 +46,7 @@ pub fn home_node(area: &[u8], k: usize) -> usize
 }
 
 // Its ID, which stands before its fields.
+#[tactic(auto, unfolding(crate::specs::Layout::id_before, base::specs::Pick::pick))]
 fn id_before(area: &[u8], k: usize, at: usize) -> Id
     requires { (k < waiter_range) × (at ≤ last_place) × LongEnough area.now }
     ensures { result ≡ id_before area.now k at }
@@ -58,6 +59,7 @@ fn id_before(area: &[u8], k: usize, at: usize) -> Id
 
 // ---- Tx frame `t`
 
+#[tactic(auto, unfolding(crate::specs::Layout::tx_frame, records::specs::Kinds::tx_at))]
 pub fn tx_id(area: &[u8], t: TxNumber) -> Id
     requires { (t.0 < 256) × LongEnough area.now }
     ensures { result ≡ (tx_frame area.now t.0).id }
@@ -66,6 +68,7 @@ pub fn tx_id(area: &[u8], t: TxNumber) -> Id
     id_before(area, t.0, at)
 }
 
+#[tactic(auto, unfolding(crate::specs::Layout::tx_frame, records::specs::Kinds::tx_at))]
 pub fn tx_size(area: &[u8], t: TxNumber) -> usize
     requires { (t.0 < 256) × LongEnough area.now }
     ensures { result ≡ (tx_frame area.now t.0).size }
@@ -74,6 +77,7 @@ pub fn tx_size(area: &[u8], t: TxNumber) -> usize
     wide(plan_byte(area, at))
 }
 
+#[tactic(auto, unfolding(crate::specs::Layout::tx_frame, records::specs::Kinds::tx_at))]
 pub fn tx_flags(area: &[u8], t: TxNumber) -> u8
     requires { (t.0 < 256) × LongEnough area.now }
     ensures { result ≡ (tx_frame area.now t.0).flags }
@@ -84,6 +88,7 @@ pub fn tx_flags(area: &[u8], t: TxNumber) -> u8
 
 // ---- Rx frame `r`
 
+#[tactic(auto, unfolding(crate::specs::Layout::rx_frame, records::specs::Kinds::rx_at))]
 pub fn rx_id(area: &[u8], r: RxNumber) -> Id
     requires { (r.0 < 256) × LongEnough area.now }
     ensures { result ≡ (rx_frame area.now r.0).id }
@@ -94,6 +99,7 @@ pub fn rx_id(area: &[u8], r: RxNumber) -> Id
 
 // ---- the Rx frame whose fields begin at a place
 
+#[tactic(auto, unfolding(records::specs::Kinds::rx_at))]
 pub fn rx_size(area: &[u8], at: usize) -> usize
     requires { (at ≤ last_place) × LongEnough area.now }
     ensures { result ≡ (rx_there area.now at).size }
@@ -101,6 +107,7 @@ pub fn rx_size(area: &[u8], at: usize) -> usize
     wide(plan_byte(area, at))
 }
 
+#[tactic(auto, unfolding(records::specs::Kinds::rx_at))]
 pub fn rx_enable(area: &[u8], at: usize) -> u8
     requires { (at ≤ last_place) × LongEnough area.now }
     ensures { result ≡ (rx_there area.now at).enable }
@@ -108,6 +115,7 @@ pub fn rx_enable(area: &[u8], at: usize) -> u8
     plan_byte(area, at + 4)
 }
 
+#[tactic(auto, unfolding(records::specs::Kinds::rx_at))]
 pub fn rx_position(area: &[u8], at: usize) -> usize
     requires { (at ≤ last_place) × LongEnough area.now }
     ensures { (result ≡ (rx_there area.now at).position) × (result < 256) }
@@ -115,6 +123,7 @@ pub fn rx_position(area: &[u8], at: usize) -> usize
     wide(plan_byte(area, at + 5))
 }
 
+#[tactic(auto, unfolding(records::specs::Kinds::rx_at))]
 pub fn rx_long(area: &[u8], at: usize) -> u8
     requires { (at ≤ last_place) × LongEnough area.now }
     ensures { result ≡ (rx_there area.now at).long }

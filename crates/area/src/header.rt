@@ -7,6 +7,7 @@ use base::{at_most, wide};
 use records::record::NodeType;
 
 // Whether an area was opened: it is long enough and bears the mark, hex 47 and then 57.
+#[tactic(auto, unfolding(crate::specs::Layout::marked, base::specs::Pick::pick))]
 pub fn is_marked(area: &[u8]) -> bool
     ensures { (result ≡ marked area.now) × (result ≡ true → LongEnough area.now) }
 {
@@ -30,6 +31,7 @@ pub fn has_node(area: &[u8], n: usize) -> bool
 }
 
 // The type of node `n`: the LIN nodes follow all CAN nodes.
+#[tactic(auto, unfolding(crate::specs::Layout::type_on, base::specs::Pick::pick))]
 pub fn node_type(area: &[u8], n: usize) -> NodeType
     requires { LongEnough area.now }
     ensures { result ≡ type_on area.now n }

@@ -11,7 +11,7 @@ use crate::layout::{
 use records::record::{Entry, RxNumber, TxNumber};
 
 // The ends of a queue: where its ring begins, how many entries the ring has room for, where the oldest is, and how many wait.
-#[derive(Clone, Copy)]
+#[derive(Clone, Copy, Debug, PartialEq, Eq)]
 pub struct Ends {
     pub start: usize,
     pub room: usize,
@@ -20,6 +20,7 @@ pub struct Ends {
 }
 
 // The place in a ring of `room` entries that is `k` past `first`, once round at the most.
+#[tactic(auto, unfolding(crate::specs::Queue::past, base::specs::Pick::pick))]
 fn past(first: usize, k: usize, room: usize) -> usize
     requires { (first < 65536) × (k < 65536) }
     ensures { (result ≡ past first k room) × (result < 131072) }
@@ -33,33 +34,33 @@ fn past(first: usize, k: usize, room: usize) -> usize
 
 impl Ends {
     // The queue with one more at its end.
+    #[tactic(auto, unfolding(crate::specs::Queue::added))]
     pub fn add(self) -> Ends
         requires { self.waiting < 65536 }
         ensures { result ≡ added self }
     {
         Ends {
-            start: self.start,
-            room: self.room,
-            first: self.first,
             waiting: self.waiting + 1,
+            ..self
         }
     }
 
     // The queue without its oldest.
+    #[tactic(auto, unfolding(crate::specs::Queue::removed))]
     pub fn take(self) -> Ends
         requires { (0 < self.waiting) × (self.first < 65536) }
         ensures { result ≡ removed self }
     {
         Ends {
-            start: self.start,
-            room: self.room,
             first: past(self.first, 1, self.room),
             waiting: self.waiting - 1,
+            ..self
         }
     }
 }
 
 // The ends of node `n`'s queue.
+#[tactic(auto, unfolding(crate::specs::Queue::ends_of))]
 pub fn ends_at(area: &[u8], n: usize) -> Ends
     requires { (n < 16) × LongEnough area.now }
     ensures { (result ≡ ends_of area.now n) ×
@@ -79,6 +80,7 @@ pub fn ends_at(area: &[u8], n: usize) -> Ends
 }
 
 // Node `n`'s queue gets these ends. Where its ring lies stays.
+#[tactic(auto, unfolding(crate::specs::Queue::set_ends))]
 fn put_ends(area: &mut [u8], n: usize, e: Ends)
     requires { (n < 16) × LongEnough area.old }
     ensures { area.new ≡ set_ends area.old n e }
@@ -89,6 +91,7 @@ fn put_ends(area: &mut [u8], n: usize, e: Ends)
 }
 
 // Where entry `i` of a ring stands in the area.
+#[tactic(auto, unfolding(crate::specs::Queue::slot))]
 fn slot_of(e: Ends, i: usize) -> usize
     requires { (e.start < 65536) × (i < 131072) }
     ensures { (result ≡ slot e i) × (result + 1 < payloads_start) }
@@ -97,6 +100,7 @@ fn slot_of(e: Ends, i: usize) -> usize
 }
 
 // What has this number joins node `n`'s queue at the end.
+#[tactic(auto, unfolding(crate::specs::Queue::queued))]
 fn enqueue(area: &mut [u8], n: usize, number: usize)
     requires { (n < 16) × LongEnough area.old }
     ensures { area.new ≡ queued area.old n number }
@@ -108,6 +112,7 @@ fn enqueue(area: &mut [u8], n: usize, number: usize)
 }
 
 // A frame that waits already stays as it is. Any other joins its node's queue, and its timer takes its reload value.
+#[tactic(auto, unfolding(crate::specs::Queue::scheduled, base::specs::Pick::pick))]
 pub fn schedule(area: &mut [u8], t: TxNumber)
     requires { (t.0 < 256) × LongEnough area.old }
     ensures { area.new ≡ scheduled area.old t.0 }
@@ -122,6 +127,7 @@ pub fn schedule(area: &mut [u8], t: TxNumber)
 }
 
 // The request for Rx frame `r` joins its node's queue, unless it waits already.
+#[tactic(auto, unfolding(crate::specs::Queue::requested, base::specs::Pick::pick))]
 pub fn request(area: &mut [u8], r: RxNumber)
     requires { (r.0 < 256) × LongEnough area.old }
     ensures { area.new ≡ requested area.old r.0 }
@@ -143,6 +149,7 @@ pub fn oldest_of(area: &[u8], e: Ends) -> usize
 }
 
 // What has this number.
+#[tactic(auto, unfolding(crate::specs::Queue::entry_of, base::specs::Pick::pick))]
 pub fn entry_of(number: usize) -> Entry
     ensures { result ≡ entry_of number }
 {
@@ -153,6 +160,7 @@ pub fn entry_of(number: usize) -> Entry
 }
 
 // The oldest leaves node `n`'s queue, whose ends are `e`, and waits no more. Its number is `k`.
+#[tactic(auto, unfolding(crate::specs::Queue::dequeued))]
 pub fn dequeue(area: &mut [u8], n: usize, e: Ends, k: usize)
     requires { (n < 16) × LongEnough area.old ×
         (e ≡ ends_of area.old n) × (k ≡ oldest area.old n) × (k < waiter_range) × (0 < e.waiting) × (e.first < 65536) }

@@ -19,4 +19,4 @@ returns c source has =
     let m : c.args.t.0 % 256 ≡ c.args.t.0 = mod-eq_of_lt c.requires.1 in
     let payload = c.put_signal-changed.ensures.payload source c.args.signal.position has in
     let changed = c.put_signal-changed.ensures.answer source c.args.signal.position has in
-    rw (m, ← payload, ← changed, ← c.tx_flags-flags.ensures) c.send_if.ensures
+    rw (m, ← payload, ← changed, ← c.tx_flags.ensures) c.send_if.ensures

@@ -1,7 +1,0 @@
--- `area::frames::rx_size` meets its contract: one byte of the record.
-use Rattle.records.specs.Kinds.{rx_at}
-use Rattle.area.proofs.frames.rx_size.Goals as goal
-
-pub returns : goal.returns
-unfolding rx_at
-returns c = cc

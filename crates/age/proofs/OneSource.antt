@@ -115,7 +115,7 @@ plan_of e r p =
             reload = 0;
             initial = 0;
             flags = 1;
-            payload = record { 0 = 0; 1 = 0; 2 = 0; 3 = 0; 4 = 0; 5 = 0; 6 = 0; 7 = 0 };
+            payload = 0 ∷ 0 ∷ 0 ∷ 0 ∷ 0 ∷ 0 ∷ 0 ∷ 0 ∷ [];
           }
           ∷ [];
       rows =

@@ -20,9 +20,10 @@ use Rattle.records.specs.declared.record.Record.TheVariants.{Head, Node, Tx, Rx,
 use Rattle.records.specs.Ids.{behind_id}
 use Rattle.records.specs.Kinds.{form_of, length_of, eight_at, tx_at, rx_at, tx_record, rx_record, fields_at}
 use Rattle.records.specs.Records.{record_at, size_of, records_at, records, eight_bytes}
+use Rattle.records.proofs.Payloads.{eight_same}
 use Rattle.records.proofs.RecordLaws.{record_whole, records_end, records_step}
 use Rattle.facts.specs.Good.{Each}
-use Rattle.encoding.specs.Encode.{tx_begin, rx_begin, bytes_of, encode, Whole, DecodesPlaced, DecodesEncoded}
+use Rattle.encoding.specs.Encode.{tx_begin, rx_begin, bytes_of, encode, Whole, Eight, DecodesPlaced, DecodesEncoded}
 use Rattle.encoding.proofs.Sizes.{sizes_agree, some_bytes}
 
 -- a plan with some bytes at a place: what is read there is what they say
@@ -88,11 +89,13 @@ module _ (x : TxFrame) where
         payload = x.payload;
       }
 
-  tx_at_fields : (plan : List ℕ) (at : ℕ) (rest : List ℕ) → ((i : ℕ) → byte_at plan (at + i) ≡ byte_at (tx_behind ++ rest) i) → tx_at x.node x.id plan at ≡ x
+  tx_at_fields : (plan : List ℕ) (at : ℕ) (rest : List ℕ) → length x.payload ≡ 8 → ((i : ℕ) → byte_at plan (at + i) ≡ byte_at (tx_behind ++ rest) i) → tx_at x.node x.id plan at ≡ x
   unfolding tx_at eight_at
-  tx_at_fields plan at rest b =
+  tx_at_fields plan at rest eight b =
       let first = ap (byte_at plan) (sym (add-zero at)) ∙ b 0 in
       let p : (k : ℕ) → byte_at plan (at + 5 + k) ≡ byte_at (tx_behind ++ rest) (5 + k) = λ k. ap (byte_at plan) (omega arith) ∙ b (5 + k) in
+      let payload : eight_at plan (at + 5) ≡ x.payload =
+      (λ i. b 5 i ∷ p 1 i ∷ p 2 i ∷ p 3 i ∷ p 4 i ∷ p 5 i ∷ p 6 i ∷ p 7 i ∷ []) ∙ sym (eight_same x.payload eight) in
       λ i.
       record {
         node = x.node;
@@ -102,7 +105,7 @@ module _ (x : TxFrame) where
         reload = b 2 i;
         initial = b 3 i;
         flags = b 4 i;
-        payload = record { 0 = b 5 i; 1 = p 1 i; 2 = p 2 i; 3 = p 3 i; 4 = p 4 i; 5 = p 5 i; 6 = p 6 i; 7 = p 7 i };
+        payload = payload i;
       }
 
 module _ (x : RxFrame) where
@@ -180,20 +183,20 @@ module _ (front rest : List ℕ) where
           let xs = bytes_of (Destination body) in
           λ i. record { tx = record { 0 = two front xs rest 1 body.tx.0 refl refl i }; position = byte front xs rest 3 i }
 
-  tx : (x : TxFrame) (id : Id) → Read (Tx (tx_with x id))
+  tx : (x : TxFrame) (id : Id) → length x.payload ≡ 8 → Read (Tx (tx_with x id))
   unfolding bytes_of tx_begin fields_at tx_record behind_id form_of pick length_of
-  tx x (Standard n) =
+  tx x (Standard n) eight =
       let xs = bytes_of (Tx (tx_with x (Standard n))) in
       is_record front xs rest 3 _ refl refl (omega arith)
       (ap Tx
       ((λ i. tx_at (byte front xs rest 1 i) (Standard (two front xs rest 2 n refl refl i)) (front ++ (xs ++ rest)) (length front + 4))
-      ∙ tx_at_fields (tx_with x (Standard n)) (front ++ (xs ++ rest)) (length front + 4) rest (behind front xs rest (tx_begin x.node (Standard n)) _ refl)))
-  tx x (Extended n) =
+      ∙ tx_at_fields (tx_with x (Standard n)) (front ++ (xs ++ rest)) (length front + 4) rest eight (behind front xs rest (tx_begin x.node (Standard n)) _ refl)))
+  tx x (Extended n) eight =
       let xs = bytes_of (Tx (tx_with x (Extended n))) in
       is_record front xs rest 7 _ refl refl (omega arith)
       (ap Tx
       ((λ i. tx_at (byte front xs rest 1 i) (Extended (four front xs rest 2 n refl refl refl refl i)) (front ++ (xs ++ rest)) (length front + 6))
-      ∙ tx_at_fields (tx_with x (Extended n)) (front ++ (xs ++ rest)) (length front + 6) rest (behind front xs rest (tx_begin x.node (Extended n)) _ refl)))
+      ∙ tx_at_fields (tx_with x (Extended n)) (front ++ (xs ++ rest)) (length front + 6) rest eight (behind front xs rest (tx_begin x.node (Extended n)) _ refl)))
 
   rx : (x : RxFrame) (id : Id) → Read (Rx (rx_with x id))
   unfolding bytes_of rx_begin fields_at rx_record behind_id form_of pick length_of
@@ -211,27 +214,27 @@ module _ (front rest : List ℕ) where
       ∙ rx_at_fields (rx_with x (Extended n)) (front ++ (xs ++ rest)) (length front + 6) rest (behind front xs rest (rx_begin x.node (Extended n)) _ refl)))
 
 pub decodes_placed : DecodesPlaced
-unfolding Whole
-decodes_placed front rest (Head order) w = head front rest order
-decodes_placed front rest (Node body) w = node front rest body
-decodes_placed front rest (Tx x) w = tx front rest x x.id
-decodes_placed front rest (Rx x) w = rx front rest x x.id
-decodes_placed front rest (Signal body) w = signal front rest body
-decodes_placed front rest (Destination body) w = destination front rest body
-decodes_placed front rest (Broken fault) w = absurd w
+unfolding Whole Eight
+decodes_placed front rest (Head order) w l = head front rest order
+decodes_placed front rest (Node body) w l = node front rest body
+decodes_placed front rest (Tx x) w l = tx front rest x x.id l
+decodes_placed front rest (Rx x) w l = rx front rest x x.id
+decodes_placed front rest (Signal body) w l = signal front rest body
+decodes_placed front rest (Destination body) w l = destination front rest body
+decodes_placed front rest (Broken fault) w l = absurd w
 
 -- ---- all records
 
-from : (rs : List Record) (front : List ℕ) → Each Whole rs → records_at (front ++ encode rs) (length front) ≡ rs
+from : (rs : List Record) (front : List ℕ) → Each Whole rs → Each Eight rs → records_at (front ++ encode rs) (length front) ≡ rs
 unfolding encode Each
-from [] front w = records_end (front ++ []) (length front) (rw length-append (omega arith))
-from (r ∷ rs) front w =
+from [] front w l = records_end (front ++ []) (length front) (rw length-append (omega arith))
+from (r ∷ rs) front w l =
     let plan = front ++ (bytes_of r ++ encode rs) in
-    let e = decodes_placed front (encode rs) r w.0 in
+    let e = decodes_placed front (encode rs) r w.0 l.0 in
     let z = (sizes_agree r w.0).bytes in
     let inside : length front < length plan =
     rw (length-append front (bytes_of r ++ encode rs), length-append (bytes_of r) (encode rs)) (omega (arith, some_bytes r w.0)) in
-    let next : records_at plan (length front + size_of r) ≡ rs = more (sym z) (from rs (front ++ bytes_of r) w.1) in
+    let next : records_at plan (length front + size_of r) ≡ rs = more (sym z) (from rs (front ++ bytes_of r) w.1 l.1) in
     records_step plan (length front) inside ∙ rw (e, next)
   where
     more : size_of r ≡ length (bytes_of r) → records_at ((front ++ bytes_of r) ++ encode rs) (length (front ++ bytes_of r)) ≡ rs
@@ -240,4 +243,4 @@ from (r ∷ rs) front w =
 
 pub decodes_encoded : DecodesEncoded
 unfolding records
-decodes_encoded rs w = from rs [] w
+decodes_encoded rs w l = from rs [] w l

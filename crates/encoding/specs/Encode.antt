@@ -7,7 +7,7 @@ use Rattle.records.specs.declared.record.Id.TheVariants.{Standard, Extended}
 use Rattle.records.specs.declared.record.Record.{Record}
 use Rattle.records.specs.declared.record.Record.TheVariants.{Head, Node, Tx, Rx, Signal, Destination, Broken}
 use Rattle.records.specs.declared.record.Fault.TheVariants.{End, BadKind, Cut}
-use Rattle.records.specs.Views.{on_broken}
+use Rattle.records.specs.Views.{on_tx, on_broken}
 use Rattle.records.specs.Kinds.{length_of, kind_of}
 use Rattle.records.specs.Records.{record_at, size_of, records, eight_bytes}
 use Rattle.plan.specs.declared.verdict.Verdict.TheVariants.{Good}
@@ -55,12 +55,16 @@ encode (r ∷ rs) = bytes_of r ++ encode rs
 unfoldable pub Whole : Record → Type 0
 Whole r = on_broken (Unit {0}) (λ fault. ⊥) r
 
+-- a Tx frame's initial payload has eight bytes, as its type says
+unfoldable pub Eight : Record → Type 0
+Eight r = on_tx (Unit {0}) (λ x. length x.payload ≡ 8) r
+
 -- what is encoded is decoded, at each place and as a plan
 abbrev pub DecodesPlaced : Type 0
-DecodesPlaced = (front rest : List ℕ) (r : Record) → Whole r → record_at (front ++ (bytes_of r ++ rest)) (length front) ≡ r
+DecodesPlaced = (front rest : List ℕ) (r : Record) → Whole r → Eight r → record_at (front ++ (bytes_of r ++ rest)) (length front) ≡ r
 
 abbrev pub DecodesEncoded : Type 0
-DecodesEncoded = (rs : List Record) → Each Whole rs → records (encode rs) ≡ rs
+DecodesEncoded = (rs : List Record) → Each Whole rs → Each Eight rs → records (encode rs) ≡ rs
 
 -- and what is decoded is encoded: no byte of a plan is passed over, and none is read twice
 abbrev pub EncodesDecoded : Type 0

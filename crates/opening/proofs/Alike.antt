@@ -3,7 +3,6 @@ use Rattle.std.proofs.Common.{◌≡◌, ℕ, zero, suc, ◌+◌, ◌%◌, ◌<�
 use borrow.Author.Tests.{eqb-false}
 use Rattle.base.specs.Pick.{pick}
 use Rattle.base.specs.Numbers.{byte_at, low_at, set_low}
-use Rattle.records.specs.declared.record.Eight.{Eight}
 use Rattle.records.specs.declared.record.TxFrame.{TxFrame}
 use Rattle.records.specs.declared.record.RxFrame.{RxFrame}
 use Rattle.records.specs.declared.record.Record.{Record}
@@ -48,7 +47,7 @@ Alike-tx_timer : (t : ℕ) (x : TxFrame) {a b : List ℕ} → Alike a b → Alik
 unfolding with_tx_timer
 Alike-tx_timer t x s = Alike-set _ refl (Alike-set _ refl (Alike-set _ refl s))
 
-Alike-payload : (t : ℕ) (e : Eight) {a b : List ℕ} → Alike a b → Alike (with_payload t e a) (with_payload t e b)
+Alike-payload : (t : ℕ) (e : List ℕ) {a b : List ℕ} → Alike a b → Alike (with_payload t e a) (with_payload t e b)
 unfolding with_payload
 Alike-payload t e s =
     Alike-set _ refl (Alike-set _ refl (Alike-set _ refl (Alike-set _ refl

@@ -2,7 +2,6 @@
 use Rattle.std.proofs.Common.{◌≡◌, ℕ, zero, suc, ◌+◌, ◌%◌, ◌<◌, ◌≤◌, List, [], ◌∷◌, length, get_or, set, refl, ◌∙◌, add-one, arith, length-set, get_or-set_other}
 use Rattle.base.specs.Numbers.{low_at, set_low}
 use Rattle.base.proofs.Picks.{both}
-use Rattle.records.specs.declared.record.Eight.{Eight}
 use Rattle.records.specs.declared.record.TxFrame.{TxFrame}
 use Rattle.records.specs.declared.record.RxFrame.{RxFrame}
 use Rattle.records.specs.declared.record.Record.{Record}
@@ -75,7 +74,7 @@ module _ (P : ℕ → Type 0) (tables : (j : ℕ) → nodes_start ≤ j → j < 
   Same-tx_timer t x a h =
       put _ _ (omega arith) (omega arith) (put _ _ (omega arith) (omega arith) (put _ _ (omega arith) (omega arith) (same P a)))
 
-  Same-payload : (t : ℕ) (b : Eight) (a : List ℕ) → t < 256 → Same P a (with_payload t b a)
+  Same-payload : (t : ℕ) (b : List ℕ) (a : List ℕ) → t < 256 → Same P a (with_payload t b a)
   unfolding with_payload
   Same-payload t b a h =
       put _ _ (omega arith) (omega arith) (put _ _ (omega arith) (omega arith) (put _ _ (omega arith) (omega arith)

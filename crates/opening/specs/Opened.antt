@@ -7,7 +7,6 @@ use Rattle.bits.specs.Owners.{owners}
 use Rattle.clock.specs.Counter.{mask_of}
 use Rattle.records.specs.declared.record.Id.{Id}
 use Rattle.records.specs.declared.record.Id.TheVariants.{Standard, Extended}
-use Rattle.records.specs.declared.record.Eight.{Eight}
 use Rattle.records.specs.declared.record.TxFrame.{TxFrame}
 use Rattle.records.specs.declared.record.RxFrame.{RxFrame}
 use Rattle.records.specs.declared.record.Record.{Record}
@@ -65,7 +64,7 @@ home_of node (Extended n) = node % 16 + extended_home
 unfoldable pub with_tx_timer : ℕ → TxFrame → List ℕ → List ℕ
 with_tx_timer t x a = slice_set (slice_set (slice_set a (tx_reload t) x.reload) (tx_timer t) x.initial) (tx_mask t) (mask_of x.prescaler)
 
-unfoldable pub with_payload : ℕ → Eight → List ℕ → List ℕ
+unfoldable pub with_payload : ℕ → List ℕ → List ℕ → List ℕ
 with_payload t b a =
     set
     (set
@@ -74,14 +73,14 @@ with_payload t b a =
     (set
     (set
     (set
-    (slice_set a (payload t) b.0)
-    (payload t + 1) b.1)
-    (payload t + 2) b.2)
-    (payload t + 3) b.3)
-    (payload t + 4) b.4)
-    (payload t + 5) b.5)
-    (payload t + 6) b.6)
-    (payload t + 7) b.7
+    (slice_set a (payload t) (byte_at b 0))
+    (payload t + 1) (byte_at b 1))
+    (payload t + 2) (byte_at b 2))
+    (payload t + 3) (byte_at b 3))
+    (payload t + 4) (byte_at b 4))
+    (payload t + 5) (byte_at b 5))
+    (payload t + 6) (byte_at b 6))
+    (payload t + 7) (byte_at b 7)
 
 -- one frame or request more that can wait on node n
 unfoldable pub with_frame : ℕ → List ℕ → List ℕ

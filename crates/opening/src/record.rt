@@ -16,7 +16,7 @@ use area::layout::{
 use base::{low_at, put_low, wide};
 use clock::counter::mask;
 use records::reader::read_record;
-use records::record::{Eight, Id, NodeType, Record, RxFrame, RxNumber, TxFrame, TxNumber};
+use records::record::{Id, NodeType, Record, RxFrame, RxNumber, TxFrame, TxNumber};
 
 // A frame's home: its node, and whether its ID has 29 bits.
 fn home_of(node: u8, id: Id) -> u8
@@ -64,19 +64,19 @@ fn with_tx_timer(area: &mut [u8], t: TxNumber, x: TxFrame)
 }
 
 // The initial payload of Tx frame `t`.
-fn with_payload(area: &mut [u8], t: TxNumber, bytes: Eight)
+fn with_payload(area: &mut [u8], t: TxNumber, bytes: [u8; 8])
     requires { (t.0 < 256) × LongEnough area.old }
     ensures { area.new ≡ with_payload t.0 bytes area.old }
 {
     let at = layout::payload(t);
-    area[at] = bytes.0;
-    area[at + 1] = bytes.1;
-    area[at + 2] = bytes.2;
-    area[at + 3] = bytes.3;
-    area[at + 4] = bytes.4;
-    area[at + 5] = bytes.5;
-    area[at + 6] = bytes.6;
-    area[at + 7] = bytes.7;
+    area[at] = bytes[0];
+    area[at + 1] = bytes[1];
+    area[at + 2] = bytes[2];
+    area[at + 3] = bytes[3];
+    area[at + 4] = bytes[4];
+    area[at + 5] = bytes[5];
+    area[at + 6] = bytes[6];
+    area[at + 7] = bytes[7];
 }
 
 // One frame or request more can wait on node `n`.

@@ -1,12 +1,12 @@
 -- What a test that is passed says of the fields.
 use mathlib.Core.Path.{◌≡◌, refl}
 use mathlib.Core.Bool.{Bool, true, false, ◌&&◌, false≢true}
+use mathlib.Core.List.{List}
 use Prim.Native.Nat.{ℕ, ◌≤◌, ◌<◌}
 use native.Mathlib.Omega.{arith}
 use borrow.Author.Tests.{ltb-true, leb-true, lt-ltb}
 use Rattle.records.specs.declared.record.Id.{Id}
 use Rattle.records.specs.declared.record.Id.TheVariants.{Standard, Extended}
-use Rattle.records.specs.declared.record.Eight.{Eight}
 use Rattle.records.specs.declared.record.TxFrame.{TxFrame}
 use Rattle.records.specs.declared.record.RxFrame.{RxFrame}
 use Rattle.records.specs.declared.record.Fault.{Fault}
@@ -22,7 +22,7 @@ and_both true y e = (refl, e)
 and_both false y e = absurd (false≢true e)
 
 -- past eight bytes there is none
-pub zero_full : (size : ℕ) (b : Eight) → 8 ≤ size → true ≡ zero_past size b
+pub zero_full : (size : ℕ) (b : List ℕ) → 8 ≤ size → true ≡ zero_past size b
 unfolding zero_past
 zero_full size b h =
     rw (

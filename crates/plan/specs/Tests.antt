@@ -1,9 +1,9 @@
 -- The tests that a record must pass, one for each refusal, each by the kind of record. A test that a kind does not have is passed.
 use Rattle.std.specs.Prelude.{ℕ, ◌+◌, ◌*◌, Bool, true, false, not, ◌&&◌, ◌||◌, List, leb, ltb, eqb, get_or}
+use Rattle.base.specs.Numbers.{byte_at}
 use Rattle.bits.specs.Owners.{owned, clash}
 use Rattle.records.specs.declared.record.Id.{Id}
 use Rattle.records.specs.declared.record.Id.TheVariants.{Standard, Extended}
-use Rattle.records.specs.declared.record.Eight.{Eight}
 use Rattle.records.specs.declared.record.TxFrame.{TxFrame}
 use Rattle.records.specs.declared.record.RxFrame.{RxFrame}
 use Rattle.records.specs.declared.record.Record.{Record}
@@ -57,16 +57,16 @@ unfoldable pub is_prescaler : ℕ → Bool
 is_prescaler p = eqb p 1 || eqb p 2 || eqb p 10 || eqb p 20
 
 -- "payload bytes past the size zero"
-unfoldable pub zero_past : ℕ → Eight → Bool
+unfoldable pub zero_past : ℕ → List ℕ → Bool
 zero_past size b =
-    (ltb 0 size || eqb b.0 0)
-    && (ltb 1 size || eqb b.1 0)
-    && (ltb 2 size || eqb b.2 0)
-    && (ltb 3 size || eqb b.3 0)
-    && (ltb 4 size || eqb b.4 0)
-    && (ltb 5 size || eqb b.5 0)
-    && (ltb 6 size || eqb b.6 0)
-    && (ltb 7 size || eqb b.7 0)
+    (ltb 0 size || eqb (byte_at b 0) 0)
+    && (ltb 1 size || eqb (byte_at b 1) 0)
+    && (ltb 2 size || eqb (byte_at b 2) 0)
+    && (ltb 3 size || eqb (byte_at b 3) 0)
+    && (ltb 4 size || eqb (byte_at b 4) 0)
+    && (ltb 5 size || eqb (byte_at b 5) 0)
+    && (ltb 6 size || eqb (byte_at b 6) 0)
+    && (ltb 7 size || eqb (byte_at b 7) 0)
 
 -- "ID 0–2047"; "a four-byte ID, 0 to 536,870,911" (document 02, Ticket 6)
 unfoldable pub id_in_range : Id → Bool

@@ -9,7 +9,7 @@ ghost use Rattle.plan.specs.Tests.{is_prescaler, zero_past, id_in_range, tx_in_r
 
 use crate::limits::{EXTENDED_ID_RANGE, ID_RANGE, LIN_ID_RANGE};
 use records::decode::{DESTINATION_STAGE, SIGNAL_STAGE};
-use records::record::{Eight, Id, RxFrame, TxFrame};
+use records::record::{Id, RxFrame, TxFrame};
 
 fn is_prescaler(p: u8) -> bool
     ensures { result ≡ is_prescaler p }
@@ -18,20 +18,20 @@ fn is_prescaler(p: u8) -> bool
 }
 
 // Whether the bytes past the size are zero; past eight there is none.
-fn zero_past(size: u8, b: Eight) -> bool
-    ensures { result ≡ zero_past size b }
+fn zero_past(size: u8, payload: [u8; 8]) -> bool
+    ensures { result ≡ zero_past size payload }
 {
     if 8 <= size {
         return true;
     }
-    ((0 < size) | (b.0 == 0))
-        & ((1 < size) | (b.1 == 0))
-        & ((2 < size) | (b.2 == 0))
-        & ((3 < size) | (b.3 == 0))
-        & ((4 < size) | (b.4 == 0))
-        & ((5 < size) | (b.5 == 0))
-        & ((6 < size) | (b.6 == 0))
-        & ((7 < size) | (b.7 == 0))
+    ((0 < size) | (payload[0] == 0))
+        & ((1 < size) | (payload[1] == 0))
+        & ((2 < size) | (payload[2] == 0))
+        & ((3 < size) | (payload[3] == 0))
+        & ((4 < size) | (payload[4] == 0))
+        & ((5 < size) | (payload[5] == 0))
+        & ((6 < size) | (payload[6] == 0))
+        & ((7 < size) | (payload[7] == 0))
 }
 
 fn id_in_range(id: Id) -> bool

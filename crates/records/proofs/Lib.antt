@@ -1,4 +1,5 @@
 pub mod IdLaws
+pub mod Payloads
 pub mod RecordLaws
 pub mod Followers
 pub mod Variants

@@ -32,8 +32,7 @@ listed =
       reload = 3;
       initial = 3;
       flags = 2;
-      payload = record
-          { 0 = 0; 1 = 0; 2 = 0; 3 = 0; 4 = 0; 5 = 0; 6 = 0; 7 = 0 };
+      payload = 0 ∷ 0 ∷ 0 ∷ 0 ∷ 0 ∷ 0 ∷ 0 ∷ 0 ∷ [];
     })
     ∷ Rx (record { node = 0; id = Standard 32; size = 1; prescaler = 1; reload = 2; initial = 2; enable = 1; position = 15; long = 2 })
     ∷ Signal (record { position = 2; size = 4 })

@@ -10,12 +10,11 @@
 --   6 destination    3   destination  Tx frame 2, position 1
 --   7 Tx frame      18   Tx           as 3, "with a four-byte ID" (document 02, Ticket 6)
 --   8 Rx frame      12   Rx           as 4, with a four-byte ID
-use Rattle.std.specs.Prelude.{ℕ, ◌+◌, List, eqb}
+use Rattle.std.specs.Prelude.{ℕ, ◌+◌, List, [], ◌∷◌, eqb}
 use Rattle.base.specs.Pick.{pick}
 use Rattle.base.specs.Numbers.{byte_at, two_at, four_at}
 use Rattle.records.specs.declared.record.Id.{Id}
 use Rattle.records.specs.declared.record.Id.TheVariants.{Standard, Extended}
-use Rattle.records.specs.declared.record.Eight.{Eight}
 use Rattle.records.specs.declared.record.TxFrame.{TxFrame}
 use Rattle.records.specs.declared.record.RxFrame.{RxFrame}
 use Rattle.records.specs.declared.record.Fault.{Fault}
@@ -26,18 +25,17 @@ use Rattle.records.specs.Ids.{behind_id}
 use Rattle.records.specs.Views.{by_kind, by_fault}
 
 -- the eight bytes from a place on
-unfoldable pub eight_at : List ℕ → ℕ → Eight
+unfoldable pub eight_at : List ℕ → ℕ → List ℕ
 eight_at plan at =
-    record {
-      0 = byte_at plan at;
-      1 = byte_at plan (at + 1);
-      2 = byte_at plan (at + 2);
-      3 = byte_at plan (at + 3);
-      4 = byte_at plan (at + 4);
-      5 = byte_at plan (at + 5);
-      6 = byte_at plan (at + 6);
-      7 = byte_at plan (at + 7);
-    }
+    byte_at plan at
+    ∷ byte_at plan (at + 1)
+    ∷ byte_at plan (at + 2)
+    ∷ byte_at plan (at + 3)
+    ∷ byte_at plan (at + 4)
+    ∷ byte_at plan (at + 5)
+    ∷ byte_at plan (at + 6)
+    ∷ byte_at plan (at + 7)
+    ∷ []
 
 -- the frame of a node and an ID whose fields behind the ID begin at a place: these are alike in both formats
 unfoldable pub tx_at : ℕ → Id → List ℕ → ℕ → TxFrame

@@ -2,7 +2,6 @@
 use Rattle.std.specs.Prelude.{ℕ, zero, suc, ◌+◌, ◌-◌, List, [], ◌∷◌, length, leb, ltb, eqb}
 use Rattle.base.specs.Pick.{pick}
 use Rattle.base.specs.Numbers.{byte_at}
-use Rattle.records.specs.declared.record.Eight.{Eight}
 use Rattle.records.specs.declared.record.Fault.{Fault}
 use Rattle.records.specs.declared.record.Fault.TheVariants.{End, BadKind, Cut}
 use Rattle.records.specs.declared.record.Record.{Record}
@@ -41,6 +40,6 @@ records_at plan at = records_from (length plan - at) plan at
 unfoldable pub records : List ℕ → List Record
 records plan = records_at plan 0
 
--- the eight bytes of a payload, as a list
-abbrev pub eight_bytes : Eight → List ℕ
-eight_bytes b = b.0 ∷ b.1 ∷ b.2 ∷ b.3 ∷ b.4 ∷ b.5 ∷ b.6 ∷ b.7 ∷ []
+-- the eight bytes of a payload
+abbrev pub eight_bytes : List ℕ → List ℕ
+eight_bytes b = byte_at b 0 ∷ byte_at b 1 ∷ byte_at b 2 ∷ byte_at b 3 ∷ byte_at b 4 ∷ byte_at b 5 ∷ byte_at b 6 ∷ byte_at b 7 ∷ []

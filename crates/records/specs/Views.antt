@@ -1,6 +1,6 @@
 -- What others ask of a record: views that name the kinds they are about, and give one answer for every other record. Only here has each
 -- variant its clause.
-use Rattle.std.specs.Prelude.{ℕ}
+use Rattle.std.specs.Prelude.{ℕ, [], ◌∷◌}
 use Rattle.records.specs.declared.record.Id.TheVariants.{Standard}
 use Rattle.records.specs.declared.record.NodeBody.{NodeBody}
 use Rattle.records.specs.declared.record.TxFrame.{TxFrame}
@@ -65,7 +65,7 @@ no_tx =
       reload = 0;
       initial = 0;
       flags = 0;
-      payload = record { 0 = 0; 1 = 0; 2 = 0; 3 = 0; 4 = 0; 5 = 0; 6 = 0; 7 = 0 };
+      payload = 0 ∷ 0 ∷ 0 ∷ 0 ∷ 0 ∷ 0 ∷ 0 ∷ 0 ∷ [];
     }
 
 abbrev pub no_rx : RxFrame

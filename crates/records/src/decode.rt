@@ -7,24 +7,17 @@ ghost use Rattle.records.specs.Reading.{step_at, follower_at};
 ghost use Rattle.records.specs.declared.record.Record.TheVariants.{Signal, Destination};
 
 use crate::record::{
-    DestinationBody, Eight, Fault, Follower, Id, NodeBody, Record, RxFrame, SignalBody, TxFrame,
-    TxNumber,
+    DestinationBody, Fault, Follower, Id, NodeBody, Record, RxFrame, SignalBody, TxFrame, TxNumber,
 };
 
-fn eight_at(plan: &[u8], at: usize) -> Eight
+fn eight_at(plan: &[u8], at: usize) -> [u8; 8]
     requires { at + 8 ≤ length plan.now }
     ensures { result ≡ eight_at plan.now at }
 {
-    Eight(
-        plan[at],
-        plan[at + 1],
-        plan[at + 2],
-        plan[at + 3],
-        plan[at + 4],
-        plan[at + 5],
-        plan[at + 6],
-        plan[at + 7],
-    )
+    match plan[at..at + 8].first_chunk() {
+        Some(eight) => *eight,
+        None => unreachable!(),
+    }
 }
 
 // The Tx frame of a node and an ID whose fields behind the ID begin at a place, and so the Rx frame.

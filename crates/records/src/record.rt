@@ -23,19 +23,6 @@ pub enum Entry {
     Request(RxNumber),
 }
 
-// The eight bytes of an initial payload.
-#[derive(Clone, Copy)]
-pub struct Eight(
-    pub u8,
-    pub u8,
-    pub u8,
-    pub u8,
-    pub u8,
-    pub u8,
-    pub u8,
-    pub u8,
-);
-
 // The ID of a frame, with its format: 11 bits, or the 29 bits of an extended frame. ID 32 in one format is not ID 32 in the other.
 #[derive(Clone, Copy)]
 pub enum Id {
@@ -89,7 +76,8 @@ pub struct TxFrame {
     pub reload: u8,
     pub initial: u8,
     pub flags: u8,
-    pub payload: Eight,
+    // the initial payload
+    pub payload: [u8; 8],
 }
 
 #[derive(Clone, Copy)]

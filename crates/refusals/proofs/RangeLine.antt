@@ -7,12 +7,13 @@ use Prim.Native.Nat.{ℕ, zero, suc, ◌≤◌, ◌<◌}
 use native.Mathlib.Omega.{arith}
 use lib.Dec.{leb, ltb, eqb}
 use lib.ListN.{get_or}
+use Rattle.base.specs.Numbers.{byte_at}
 use Rattle.records.specs.declared.record.Id.{Id}
 use Rattle.records.specs.declared.record.Id.TheVariants.{Standard, Extended}
-use Rattle.records.specs.declared.record.Eight.{Eight}
 use Rattle.records.specs.declared.record.TxFrame.{TxFrame}
 use Rattle.records.specs.declared.record.RxFrame.{RxFrame}
 use Rattle.records.specs.declared.record.Record.{Record}
+use Rattle.records.specs.Records.{eight_bytes}
 use Rattle.plan.specs.Tests.{is_prescaler, zero_past, id_in_range, tx_in_range, rx_in_range, in_range, is_lin_id, frame_fits, fits_node}
 use Rattle.plan.proofs.TestLaws.{tx_ranges, rx_ranges}
 use Rattle.facts.specs.Good.{count_of}
@@ -29,12 +30,12 @@ unfolding is_prescaler
 prescaler p = either (either (either (equal _ _) (equal _ _)) (equal _ _)) (equal _ _)
 
 -- some byte past the size, one by one
-abbrev SomePast : ℕ → Eight → Type 0
+abbrev SomePast : ℕ → List ℕ → Type 0
 SomePast size b =
-    ((size ≤ 0) and (b.0 ≢ 0)) or ((size ≤ 1) and (b.1 ≢ 0)) or ((size ≤ 2) and (b.2 ≢ 0)) or ((size ≤ 3) and (b.3 ≢ 0))
-    or ((size ≤ 4) and (b.4 ≢ 0)) or ((size ≤ 5) and (b.5 ≢ 0)) or ((size ≤ 6) and (b.6 ≢ 0)) or ((size ≤ 7) and (b.7 ≢ 0))
+    ((size ≤ 0) and (byte_at b 0 ≢ 0)) or ((size ≤ 1) and (byte_at b 1 ≢ 0)) or ((size ≤ 2) and (byte_at b 2 ≢ 0)) or ((size ≤ 3) and (byte_at b 3 ≢ 0))
+    or ((size ≤ 4) and (byte_at b 4 ≢ 0)) or ((size ≤ 5) and (byte_at b 5 ≢ 0)) or ((size ≤ 6) and (byte_at b 6 ≢ 0)) or ((size ≤ 7) and (byte_at b 7 ≢ 0))
 
-some_past : (size : ℕ) (b : Eight) → SomePast size b → NotZeroPast size b
+some_past : (size : ℕ) (b : List ℕ) → SomePast size b → NotZeroPast size b
 some_past size b (inl (inl (inl (inl (inl (inl (inl w))))))) = (0, w.0, w.1)
 some_past size b (inl (inl (inl (inl (inl (inl (inr w))))))) = (1, w.0, w.1)
 some_past size b (inl (inl (inl (inl (inl (inr w)))))) = (2, w.0, w.1)
@@ -44,7 +45,7 @@ some_past size b (inl (inl (inr w))) = (5, w.0, w.1)
 some_past size b (inl (inr w)) = (6, w.0, w.1)
 some_past size b (inr w) = (7, w.0, w.1)
 
-past_some : (size : ℕ) (b : Eight) (i : ℕ) → size ≤ i → get_or (b.0 ∷ b.1 ∷ b.2 ∷ b.3 ∷ b.4 ∷ b.5 ∷ b.6 ∷ b.7 ∷ []) i 0 ≢ 0 → SomePast size b
+past_some : (size : ℕ) (b : List ℕ) (i : ℕ) → size ≤ i → byte_at (eight_bytes b) i ≢ 0 → SomePast size b
 past_some size b zero l d = inl (inl (inl (inl (inl (inl (inl (l, d)))))))
 past_some size b (suc zero) l d = inl (inl (inl (inl (inl (inl (inr (l, d)))))))
 past_some size b (suc (suc zero)) l d = inl (inl (inl (inl (inl (inr (l, d))))))
@@ -55,7 +56,7 @@ past_some size b (suc (suc (suc (suc (suc (suc zero)))))) l d = inl (inr (l, d))
 past_some size b (suc (suc (suc (suc (suc (suc (suc zero))))))) l d = inr (l, d)
 past_some size b (suc (suc (suc (suc (suc (suc (suc (suc i)))))))) l d = absurd (d refl)
 
-zeros : (size : ℕ) (b : Eight) → Fails (zero_past size b) (NotZeroPast size b)
+zeros : (size : ℕ) (b : List ℕ) → Fails (zero_past size b) (NotZeroPast size b)
 unfolding zero_past
 zeros size b =
     by (both (both (both (both (both (both (both at at) at) at) at) at) at) at) (some_past size b) (λ w. past_some size b w.0 w.1 w.2)

@@ -3,7 +3,6 @@ use Rattle.std.specs.Prelude.{◌≡◌, ◌≢◌, List, ℕ, ◌≤◌, ◌<�
 use Rattle.base.specs.Numbers.{byte_at}
 use Rattle.records.specs.declared.record.Id.{Id}
 use Rattle.records.specs.declared.record.Id.TheVariants.{Standard, Extended}
-use Rattle.records.specs.declared.record.Eight.{Eight}
 use Rattle.records.specs.declared.record.NodeBody.{NodeBody}
 use Rattle.records.specs.declared.record.TxFrame.{TxFrame}
 use Rattle.records.specs.declared.record.RxFrame.{RxFrame}
@@ -35,7 +34,7 @@ abbrev pub NoPrescaler : ℕ → Type 0
 NoPrescaler p = (p ≢ 1) and (p ≢ 2) and (p ≢ 10) and (p ≢ 20)
 
 -- a byte of the payload past the size is not zero
-abbrev pub NotZeroPast : ℕ → Eight → Type 0
+abbrev pub NotZeroPast : ℕ → List ℕ → Type 0
 NotZeroPast size b = (i : ℕ) × (size ≤ i) × (byte_at (eight_bytes b) i ≢ 0)
 
 -- "ID 0–2047"; "a four-byte ID, 0 to 536,870,911" (document 02, Ticket 6)

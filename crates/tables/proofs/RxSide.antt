@@ -5,7 +5,6 @@ use Prim.Native.Nat.{ℕ, zero, suc, ◌+◌, ◌%◌, ◌<◌, ◌≤◌}
 use native.Mathlib.Omega.{arith}
 use lib.ListN.{length, set}
 use Rattle.base.specs.Numbers.{set_low}
-use Rattle.records.specs.declared.record.Eight.{Eight}
 use Rattle.records.specs.declared.record.TxFrame.{TxFrame}
 use Rattle.records.specs.declared.record.RxFrame.{RxFrame}
 use Rattle.records.specs.declared.record.Record.{Record}
@@ -126,7 +125,7 @@ leaves_tx_timer t x a h =
 in_payload : {a b : List ℕ} (t i v : ℕ) → t < 256 → i < 8 → Same RxSide a b → Same RxSide a (set b (payload t + i) v)
 in_payload t i v h l s = put high_clear _ _ (omega arith) (omega arith) s
 
-leaves_payload : (t : ℕ) (b : Eight) (a : List ℕ) → t < 256 → Same RxSide a (with_payload t b a)
+leaves_payload : (t : ℕ) (b : List ℕ) (a : List ℕ) → t < 256 → Same RxSide a (with_payload t b a)
 unfolding with_payload
 leaves_payload t b a h =
     in_payload t 7 _ h (omega arith) (in_payload t 6 _ h (omega arith) (in_payload t 5 _ h (omega arith) (in_payload t 4 _ h (omega arith)

@@ -5,7 +5,6 @@ use Prim.Native.Nat.{ℕ, zero, suc, ◌+◌, ◌%◌, ◌<◌, ◌≤◌}
 use native.Mathlib.Nat.{add-zero}
 use native.Mathlib.Omega.{arith}
 use lib.ListN.{length}
-use Rattle.records.specs.declared.record.Eight.{Eight}
 use Rattle.records.specs.declared.record.TxFrame.{TxFrame}
 use Rattle.records.specs.declared.record.RxFrame.{RxFrame}
 use Rattle.records.specs.declared.record.Record.{Record}
@@ -32,12 +31,12 @@ pub record NoTx (P : ℕ → Type 0) (t : ℕ) : Type 0 where
   pub payload : None P (payload t) (payload t + 8)
   pub mask : P (tx_mask t) → ⊥
 
-pub payload-written : (t : ℕ) (b : Eight) (a : List ℕ) → with_payload t b a ≡ written a (payload t) 0 (eight_bytes b)
+pub payload-written : (t : ℕ) (b : List ℕ) (a : List ℕ) → with_payload t b a ≡ written a (payload t) 0 (eight_bytes b)
 unfolding with_payload written
 payload-written t b a = rw (add-zero (payload t))
 
 module _ {P : ℕ → Type 0} where
-  pub Same-payload : (t : ℕ) (b : Eight) (a : List ℕ) → None P (payload t) (payload t + 8) → Same P a (with_payload t b a)
+  pub Same-payload : (t : ℕ) (b : List ℕ) (a : List ℕ) → None P (payload t) (payload t + 8) → Same P a (with_payload t b a)
   Same-payload t b a none =
       rw (payload-written t b a) (Same-written a (payload t) 0 (eight_bytes b) (λ j low high. none j (omega arith) (omega arith)))
 

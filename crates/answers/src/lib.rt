@@ -3,6 +3,7 @@
 
 ghost use Rattle.std.specs.Prelude.{◌≡◌};
 ghost use Rattle.plan.specs.Refusals.{number_of};
+ghost use Rattle.answers.specs.declared.Refusal.TheVariants.{Plan};
 ghost use Rattle.answers.specs.Answers.{refusal_number};
 
 use plan::verdict::Reason;
@@ -29,13 +30,42 @@ pub enum Refusal {
     WrongCall,
 }
 
-#[derive(Clone, Copy)]
-pub enum Opened {
-    Open { nodes: usize, tx: usize, rx: usize },
-    Refused { why: Refusal, record: usize },
+impl Refusal {
+    // Document 01's number of a refusal.
+    #[tactic(auto, unfolding(crate::specs::Answers::refusal_number))]
+    pub fn number(self) -> usize
+        ensures { result ≡ refusal_number self }
+    {
+        match self {
+            Refusal::Plan(reason) => reason_number(reason),
+            Refusal::ShortArea => 10,
+            Refusal::NotOpen => 11,
+            Refusal::NoNode => 12,
+            Refusal::LongPayload => 13,
+            Refusal::ShortReport => 14,
+            Refusal::NoFrame => 15,
+            Refusal::WrongCall => 16,
+        }
+    }
 }
 
+impl From<Reason> for Refusal {
+    ghost from_gives = { λ reason why. why ≡ Plan reason };
+
+    fn from(reason: Reason) -> Refusal {
+        Refusal::Plan(reason)
+    }
+}
+
+// A plan that is not opened: why, and the number of the record that is refused; 0 where the area is short.
 #[derive(Clone, Copy)]
+pub struct RefusedPlan {
+    pub why: Refusal,
+    pub record_number: usize,
+}
+
+// What a reception does.
+#[derive(Clone, Copy, Debug, PartialEq, Eq)]
 pub enum Received {
     // 0
     Accepted,
@@ -43,11 +73,10 @@ pub enum Received {
     NoRow { place: usize },
     // 2: a payload shorter than the row's size
     TooShort,
-    Refused(Refusal),
 }
 
-// What a response on LIN is answered.
-#[derive(Clone, Copy)]
+// What a response on LIN does.
+#[derive(Clone, Copy, Debug, PartialEq, Eq)]
 pub enum Responded {
     // 0
     Accepted,
@@ -55,27 +84,19 @@ pub enum Responded {
     TooShort,
     // 3: the checksum is not that of the protected identifier and the payload
     WrongSum,
-    Refused(Refusal),
 }
 
-// What "no response" is answered: as a report would say.
-#[derive(Clone, Copy)]
-pub enum Silence {
-    // 1: a short timeout
+// The timeout of an Rx frame, as a report says it.
+#[derive(Clone, Copy, Debug, PartialEq, Eq)]
+pub enum Timeout {
+    // 1
     Short,
-    // 2: a long timeout
+    // 2
     Long,
-    Refused(Refusal),
-}
-
-#[derive(Clone, Copy)]
-pub enum Ticked {
-    Done,
-    Refused(Refusal),
 }
 
 // What is sent with a frame: nothing on CAN; on LIN the protected identifier and the checksum of the payload.
-#[derive(Clone, Copy)]
+#[derive(Clone, Copy, Debug, PartialEq, Eq)]
 pub enum Framing {
     Can,
     Lin { protected: u8, checksum: u8 },
@@ -101,20 +122,14 @@ pub struct TakenRequest {
     pub protected: u8,
 }
 
+// What leaves a node's queue.
 #[derive(Clone, Copy)]
 pub enum Taken {
-    Nothing,
     Frame(TakenFrame),
     Request(TakenRequest),
-    Refused(Refusal),
 }
 
-#[derive(Clone, Copy)]
-pub enum Fullness {
-    Owned(usize),
-    Refused(Refusal),
-}
-
+#[tactic(auto, unfolding(plan::specs::Refusals::number_of))]
 fn reason_number(why: Reason) -> usize
     ensures { result ≡ number_of why }
 {
@@ -131,18 +146,9 @@ fn reason_number(why: Reason) -> usize
     }
 }
 
-// Document 01's number of a refusal.
+// The number of a refusal, as `Refusal::number`.
 pub fn refusal_number(why: Refusal) -> usize
     ensures { result ≡ refusal_number why }
 {
-    match why {
-        Refusal::Plan(reason) => reason_number(reason),
-        Refusal::ShortArea => 10,
-        Refusal::NotOpen => 11,
-        Refusal::NoNode => 12,
-        Refusal::LongPayload => 13,
-        Refusal::ShortReport => 14,
-        Refusal::NoFrame => 15,
-        Refusal::WrongCall => 16,
-    }
+    why.number()
 }

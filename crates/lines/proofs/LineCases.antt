@@ -7,6 +7,7 @@ use native.Mathlib.Omega.{arith}
 use native.Mathlib.Nat.{pow-suc}
 use lib.Dec.{ltb}
 use borrow.Author.Tests.{lt-ltb, ltb-true, ltb-false}
+use Rattle.std.specs.Prelude.{Some, None, Ok, Err}
 use Rattle.base.specs.Pick.{pick}
 use Rattle.base.proofs.Picks.{picks, cases}
 use Rattle.plan.specs.Refusals.{number_of}
@@ -15,11 +16,9 @@ use Rattle.records.specs.declared.record.Id.{Id}
 use Rattle.records.specs.declared.record.Id.TheVariants.{Standard, Extended}
 use Rattle.records.proofs.ListingRecords.{listing}
 use Rattle.answers.specs.declared.Refusal.TheVariants.{Plan, NotOpen, NoNode, LongPayload, WrongCall}
-use Rattle.answers.specs.declared.Opened.TheVariants as opened
 use Rattle.answers.specs.declared.Received.TheVariants as received
 use Rattle.answers.specs.declared.Responded.TheVariants as responded
-use Rattle.answers.specs.declared.Silence.TheVariants as silence
-use Rattle.answers.specs.declared.Ticked.TheVariants as ticked
+use Rattle.answers.specs.declared.Timeout.TheVariants as silence
 use Rattle.answers.specs.declared.Framing.TheVariants.{Can, Lin}
 use Rattle.answers.specs.declared.Taken.TheVariants as taken
 use Rattle.answers.specs.Answers.{refusal_number, received_number, responded_number, silence_number}
@@ -55,22 +54,22 @@ hex_cases = (refl, refl, refl)
 
 -- the listing, line by line
 abbrev frame : ℕ → List ℕ
-frame low = take_line (taken.Frame (record { tx = record { 0 = 0 }; id = Standard 256; size = 2; waiting = 0; framing = Can })) (0x02 ∷ low ∷ [])
+frame low = take_line (Ok (Some (taken.Frame (record { tx = record { 0 = 0 }; id = Standard 256; size = 2; waiting = 0; framing = Can })))) (0x02 ∷ low ∷ [])
 
 pub listing_lines :
-    plan_line (opened.Open 1 1 1)
-    ∷ take_line taken.Nothing []
-    ∷ rx_line received.Accepted
+    plan_line (Ok (record { nodes = 1; tx = 1; rx = 1 }))
+    ∷ take_line (Ok None) []
+    ∷ rx_line (Ok received.Accepted)
     ∷ frame 0xc0
-    ∷ tick_line ticked.Done (0 ∷ [])
-    ∷ tick_line ticked.Done (1 ∷ [])
-    ∷ tick_line ticked.Done (0 ∷ [])
+    ∷ tick_line (Ok tt) (0 ∷ [])
+    ∷ tick_line (Ok tt) (1 ∷ [])
+    ∷ tick_line (Ok tt) (0 ∷ [])
     ∷ frame 0xc1
-    ∷ tick_line ticked.Done (2 ∷ [])
-    ∷ rx_line received.Accepted
-    ∷ take_line taken.Nothing []
-    ∷ rx_line (received.NoRow 1)
-    ∷ rx_line received.TooShort
+    ∷ tick_line (Ok tt) (2 ∷ [])
+    ∷ rx_line (Ok received.Accepted)
+    ∷ take_line (Ok None) []
+    ∷ rx_line (Ok (received.NoRow 1))
+    ∷ rx_line (Ok received.TooShort)
     ∷ []
     ≡ ascii "plan ok 1 1 1\n"
     ∷ ascii "take none\n"
@@ -93,15 +92,15 @@ listing_lines = refl
 -- the lines that the listing has not: other places of a frame without a row, refusals, an empty report, more than one report byte, a frame of
 -- size 0, bad input
 pub other_lines :
-    plan_line (opened.Refused (Plan Indicator) 12)
-    ∷ rx_line (received.NoRow 0)
-    ∷ rx_line (received.NoRow 256)
-    ∷ rx_line (received.Refused LongPayload)
-    ∷ tick_line (ticked.Refused NotOpen) []
-    ∷ take_line (taken.Refused NoNode) []
-    ∷ tick_line ticked.Done []
-    ∷ tick_line ticked.Done (0 ∷ 2 ∷ 1 ∷ [])
-    ∷ take_line (taken.Frame (record { tx = record { 0 = 255 }; id = Standard 2047; size = 0; waiting = 3; framing = Can })) []
+    plan_line (Err (record { why = Plan Indicator; record_number = 12 }))
+    ∷ rx_line (Ok (received.NoRow 0))
+    ∷ rx_line (Ok (received.NoRow 256))
+    ∷ rx_line (Err LongPayload)
+    ∷ tick_line (Err NotOpen) []
+    ∷ take_line (Err NoNode) []
+    ∷ tick_line (Ok tt) []
+    ∷ tick_line (Ok tt) (0 ∷ 2 ∷ 1 ∷ [])
+    ∷ take_line (Ok (Some (taken.Frame (record { tx = record { 0 = 255 }; id = Standard 2047; size = 0; waiting = 3; framing = Can })))) []
     ∷ bad_line
     ∷ []
     ≡ ascii "plan refused 9 12\n"
@@ -121,16 +120,16 @@ other_lines = refl
 
 -- the lines of a LIN node (document 02, Ticket 2)
 pub lin_lines :
-    response_line responded.Accepted
-    ∷ response_line responded.TooShort
-    ∷ response_line responded.WrongSum
-    ∷ response_line (responded.Refused WrongCall)
-    ∷ silence_line silence.Short
-    ∷ silence_line silence.Long
-    ∷ silence_line (silence.Refused NoNode)
-    ∷ rx_line (received.Refused WrongCall)
-    ∷ take_line (taken.Request (record { rx = record { 0 = 7 }; id = Standard 59; size = 8; waiting = 2; protected = 0xfb })) []
-    ∷ take_line (taken.Frame (record { tx = record { 0 = 1 }; id = Standard 2; size = 1; waiting = 0; framing = Lin 0x42 0xab })) (0x12 ∷ [])
+    response_line (Ok responded.Accepted)
+    ∷ response_line (Ok responded.TooShort)
+    ∷ response_line (Ok responded.WrongSum)
+    ∷ response_line (Err WrongCall)
+    ∷ silence_line (Ok silence.Short)
+    ∷ silence_line (Ok silence.Long)
+    ∷ silence_line (Err NoNode)
+    ∷ rx_line (Err WrongCall)
+    ∷ take_line (Ok (Some (taken.Request (record { rx = record { 0 = 7 }; id = Standard 59; size = 8; waiting = 2; protected = 0xfb })))) []
+    ∷ take_line (Ok (Some (taken.Frame (record { tx = record { 0 = 1 }; id = Standard 2; size = 1; waiting = 0; framing = Lin 0x42 0xab })))) (0x12 ∷ [])
     ∷ []
     ≡ ascii "rx 0\n"
     ∷ ascii "rx 2\n"
@@ -149,11 +148,11 @@ lin_lines = refl
 
 -- frames with a 29-bit ID (document 02, Ticket 6): one with data and one without, the same number in both formats, the largest number
 abbrev empty : Id → List ℕ
-empty id = take_line (taken.Frame (record { tx = record { 0 = 0 }; id = id; size = 0; waiting = 0; framing = Can })) []
+empty id = take_line (Ok (Some (taken.Frame (record { tx = record { 0 = 0 }; id = id; size = 0; waiting = 0; framing = Can })))) []
 
 abbrev full : Id → List ℕ
 full id =
-    take_line (taken.Frame (record { tx = record { 0 = 0 }; id = id; size = 8; waiting = 0; framing = Can }))
+    take_line (Ok (Some (taken.Frame (record { tx = record { 0 = 0 }; id = id; size = 8; waiting = 0; framing = Can }))))
     (0xff ∷ 0xff ∷ 0xff ∷ 0x68 ∷ 0x13 ∷ 0xff ∷ 0xff ∷ 0x00 ∷ [])
 
 pub extended_lines :

@@ -1,19 +1,17 @@
 -- The bench program's lines, each of them ending in one line feed.
-use Rattle.std.specs.Prelude.{ℕ, List, [], ◌∷◌, ◌++◌, eqb}
+use Rattle.std.specs.Prelude.{ℕ, List, [], ◌∷◌, ◌++◌, eqb, Option, Some, None, Result, Ok, Err}
 use Rattle.base.specs.Pick.{pick}
 use Rattle.records.specs.declared.record.Id.{Id}
 use Rattle.records.specs.declared.record.Id.TheVariants.{Standard, Extended}
 use Rattle.answers.specs.declared.Refusal.{Refusal}
-use Rattle.answers.specs.declared.Opened.{Opened}
-use Rattle.answers.specs.declared.Opened.TheVariants as opened
+use Rattle.plan.specs.declared.verdict.PlanCounts.{PlanCounts}
+use Rattle.answers.specs.declared.RefusedPlan.{RefusedPlan}
 use Rattle.answers.specs.declared.Received.{Received}
 use Rattle.answers.specs.declared.Received.TheVariants as received
 use Rattle.answers.specs.declared.Responded.{Responded}
 use Rattle.answers.specs.declared.Responded.TheVariants as responded
-use Rattle.answers.specs.declared.Silence.{Silence}
-use Rattle.answers.specs.declared.Silence.TheVariants as silence
-use Rattle.answers.specs.declared.Ticked.{Ticked}
-use Rattle.answers.specs.declared.Ticked.TheVariants as ticked
+use Rattle.answers.specs.declared.Timeout.{Timeout}
+use Rattle.answers.specs.declared.Timeout.TheVariants as silence
 use Rattle.answers.specs.declared.TakenFrame.{TakenFrame}
 use Rattle.answers.specs.declared.TakenRequest.{TakenRequest}
 use Rattle.answers.specs.declared.Taken.{Taken}
@@ -32,34 +30,34 @@ abbrev pub refused_line : List ℕ → Refusal → List ℕ
 refused_line word why = numbers_line (word ++ ascii " refused") (refusal_number why ∷ [])
 
 -- "The first line is `plan ok NODES TX RX` or `plan refused NO RECORD`"
-unfoldable pub plan_line : Opened → List ℕ
-plan_line (opened.Open nodes tx rx) = numbers_line (ascii "plan ok") (nodes ∷ tx ∷ rx ∷ [])
-plan_line (opened.Refused why at) = numbers_line (ascii "plan refused") (refusal_number why ∷ at ∷ [])
+unfoldable pub plan_line : Result PlanCounts RefusedPlan → List ℕ
+plan_line (Ok counts) = numbers_line (ascii "plan ok") (counts.nodes ∷ counts.tx ∷ counts.rx ∷ [])
+plan_line (Err refused) = numbers_line (ascii "plan refused") (refusal_number refused.why ∷ refused.record_number ∷ [])
 
 -- "`rx ANSWER`"; "the bench prints `rx 1 PLACE`" (document 02, Ticket 4)
-unfoldable pub rx_line : Received → List ℕ
-rx_line received.Accepted = numbers_line (ascii "rx") (received_number received.Accepted ∷ [])
-rx_line (received.NoRow place) = numbers_line (ascii "rx") (received_number (received.NoRow place) ∷ place ∷ [])
-rx_line received.TooShort = numbers_line (ascii "rx") (received_number received.TooShort ∷ [])
-rx_line (received.Refused why) = refused_line (ascii "rx") why
+unfoldable pub rx_line : Result Received Refusal → List ℕ
+rx_line (Ok received.Accepted) = numbers_line (ascii "rx") (received_number (Ok received.Accepted) ∷ [])
+rx_line (Ok (received.NoRow place)) = numbers_line (ascii "rx") (received_number (Ok (received.NoRow place)) ∷ place ∷ [])
+rx_line (Ok received.TooShort) = numbers_line (ascii "rx") (received_number (Ok received.TooShort) ∷ [])
+rx_line (Err why) = refused_line (ascii "rx") why
 
 -- of a response on LIN, "`rx ANSWER`" alike: it has a row, or is refused (document 02, Ticket 2)
-unfoldable pub response_line : Responded → List ℕ
-response_line responded.Accepted = numbers_line (ascii "rx") (responded_number responded.Accepted ∷ [])
-response_line responded.TooShort = numbers_line (ascii "rx") (responded_number responded.TooShort ∷ [])
-response_line responded.WrongSum = numbers_line (ascii "rx") (responded_number responded.WrongSum ∷ [])
-response_line (responded.Refused why) = refused_line (ascii "rx") why
+unfoldable pub response_line : Result Responded Refusal → List ℕ
+response_line (Ok responded.Accepted) = numbers_line (ascii "rx") (responded_number (Ok responded.Accepted) ∷ [])
+response_line (Ok responded.TooShort) = numbers_line (ascii "rx") (responded_number (Ok responded.TooShort) ∷ [])
+response_line (Ok responded.WrongSum) = numbers_line (ascii "rx") (responded_number (Ok responded.WrongSum) ∷ [])
+response_line (Err why) = refused_line (ascii "rx") why
 
 -- of "no response", `silent` and what it "answers 1 or 2 as the report would" (document 02, Ticket 2)
-unfoldable pub silence_line : Silence → List ℕ
-silence_line silence.Short = numbers_line (ascii "silent") (silence_number silence.Short ∷ [])
-silence_line silence.Long = numbers_line (ascii "silent") (silence_number silence.Long ∷ [])
-silence_line (silence.Refused why) = refused_line (ascii "silent") why
+unfoldable pub silence_line : Result Timeout Refusal → List ℕ
+silence_line (Ok silence.Short) = numbers_line (ascii "silent") (silence_number (Ok silence.Short) ∷ [])
+silence_line (Ok silence.Long) = numbers_line (ascii "silent") (silence_number (Ok silence.Long) ∷ [])
+silence_line (Err why) = refused_line (ascii "silent") why
 
 -- "`tick` and the report bytes in decimal, single spaces between"
-unfoldable pub tick_line : Ticked → List ℕ → List ℕ
-tick_line ticked.Done report = numbers_line (ascii "tick") report
-tick_line (ticked.Refused why) report = refused_line (ascii "tick") why
+unfoldable pub tick_line : Result (Unit {0}) Refusal → List ℕ → List ℕ
+tick_line (Ok done) report = numbers_line (ascii "tick") report
+tick_line (Err why) report = refused_line (ascii "tick") why
 
 -- "payload lower-case hex, `-` for size 0"
 unfoldable pub payload_text : ℕ → List ℕ → List ℕ
@@ -80,11 +78,11 @@ frame_line f payload =
 unfoldable pub request_line : TakenRequest → List ℕ
 request_line q = ascii "take request" ++ spaced q.rx.0 ++ spaced_id q.id ++ each spaced (q.size ∷ q.waiting ∷ []) ++ ascii "\n"
 
-unfoldable pub take_line : Taken → List ℕ → List ℕ
-take_line taken.Nothing payload = word_line (ascii "take none")
-take_line (taken.Frame frame) payload = frame_line frame payload
-take_line (taken.Request request) payload = request_line request
-take_line (taken.Refused why) payload = refused_line (ascii "take") why
+unfoldable pub take_line : Result (Option Taken) Refusal → List ℕ → List ℕ
+take_line (Ok None) payload = word_line (ascii "take none")
+take_line (Ok (Some (taken.Frame frame))) payload = frame_line frame payload
+take_line (Ok (Some (taken.Request request))) payload = request_line request
+take_line (Err why) payload = refused_line (ascii "take") why
 
 -- "A cut or unknown event record prints `input bad`"
 unfoldable pub bad_line : List ℕ

@@ -7,8 +7,10 @@ ghost use Rattle.lines.specs.Lines.{word_line, numbers_line, plan_line, rx_line,
 ghost use Rattle.lines.specs.Lines.{payload_text, spaced_id, frame_line, request_line, take_line, bad_line};
 
 use answers::{
-    Opened, Received, Responded, Silence, Taken, TakenFrame, TakenRequest, Ticked, refusal_number,
+    Received, Refusal, RefusedPlan, Responded, Taken, TakenFrame, TakenRequest, Timeout,
+    refusal_number,
 };
+use plan::verdict::PlanCounts;
 use records::record::Id;
 
 // A word alone.
@@ -117,79 +119,85 @@ fn line_of_request(request: TakenRequest, line: &mut [u8]) -> usize
 }
 
 // The first line: what the opening answered.
-pub fn plan_line(answer: Opened, line: &mut [u8]) -> usize
+#[tactic(auto, unfolding(crate::specs::Lines::plan_line))]
+pub fn plan_line(answer: Result<PlanCounts, RefusedPlan>, line: &mut [u8]) -> usize
     requires { 2048 ≤ length line.old }
     ensures { LineIs (plan_line answer) line.old line.new result }
 {
     match answer {
-        Opened::Open { nodes, tx, rx } => line_of_three(b"plan ok", nodes, tx, rx, line),
-        Opened::Refused { why, record } => line_of_two(
+        Ok(counts) => line_of_three(b"plan ok", counts.nodes, counts.tx, counts.rx, line),
+        Err(refused) => line_of_two(
             b"plan refused",
-            refusal_number(why),
-            record,
+            refusal_number(refused.why),
+            refused.record_number,
             line,
         ),
     }
 }
 
 // What a reception answered.
-pub fn rx_line(answer: Received, line: &mut [u8]) -> usize
+#[tactic(auto, unfolding(crate::specs::Lines::rx_line, answers::specs::Answers::received_number))]
+pub fn rx_line(answer: Result<Received, Refusal>, line: &mut [u8]) -> usize
     requires { 2048 ≤ length line.old }
     ensures { LineIs (rx_line answer) line.old line.new result }
 {
     match answer {
-        Received::Accepted => line_of_one(b"rx", 0, line),
-        Received::NoRow { place } => line_of_two(b"rx", 1, place, line),
-        Received::TooShort => line_of_one(b"rx", 2, line),
-        Received::Refused(why) => line_of_one(b"rx refused", refusal_number(why), line),
+        Ok(Received::Accepted) => line_of_one(b"rx", 0, line),
+        Ok(Received::NoRow { place }) => line_of_two(b"rx", 1, place, line),
+        Ok(Received::TooShort) => line_of_one(b"rx", 2, line),
+        Err(why) => line_of_one(b"rx refused", refusal_number(why), line),
     }
 }
 
 // What a response on LIN answered, and what "no response" did.
-pub fn response_line(answer: Responded, line: &mut [u8]) -> usize
+#[tactic(auto, unfolding(crate::specs::Lines::response_line, answers::specs::Answers::responded_number))]
+pub fn response_line(answer: Result<Responded, Refusal>, line: &mut [u8]) -> usize
     requires { 2048 ≤ length line.old }
     ensures { LineIs (response_line answer) line.old line.new result }
 {
     match answer {
-        Responded::Accepted => line_of_one(b"rx", 0, line),
-        Responded::TooShort => line_of_one(b"rx", 2, line),
-        Responded::WrongSum => line_of_one(b"rx", 3, line),
-        Responded::Refused(why) => line_of_one(b"rx refused", refusal_number(why), line),
+        Ok(Responded::Accepted) => line_of_one(b"rx", 0, line),
+        Ok(Responded::TooShort) => line_of_one(b"rx", 2, line),
+        Ok(Responded::WrongSum) => line_of_one(b"rx", 3, line),
+        Err(refusal) => line_of_one(b"rx refused", refusal_number(refusal), line),
     }
 }
 
-pub fn silence_line(answer: Silence, line: &mut [u8]) -> usize
+#[tactic(auto, unfolding(crate::specs::Lines::silence_line, answers::specs::Answers::silence_number))]
+pub fn silence_line(answer: Result<Timeout, Refusal>, line: &mut [u8]) -> usize
     requires { 2048 ≤ length line.old }
     ensures { LineIs (silence_line answer) line.old line.new result }
 {
     match answer {
-        Silence::Short => line_of_one(b"silent", 1, line),
-        Silence::Long => line_of_one(b"silent", 2, line),
-        Silence::Refused(why) => line_of_one(b"silent refused", refusal_number(why), line),
+        Ok(Timeout::Short) => line_of_one(b"silent", 1, line),
+        Ok(Timeout::Long) => line_of_one(b"silent", 2, line),
+        Err(why) => line_of_one(b"silent refused", refusal_number(why), line),
     }
 }
 
 // What a tick answered, with the report bytes, one for each Rx frame.
-pub fn tick_line(answer: Ticked, report: &[u8], line: &mut [u8]) -> usize
+#[tactic(auto, unfolding(crate::specs::Lines::tick_line))]
+pub fn tick_line(answer: Result<(), Refusal>, report: &[u8], line: &mut [u8]) -> usize
     requires { (2048 ≤ length line.old) × (length report.now ≤ 256) }
     ensures { LineIs (tick_line answer report.now) line.old line.new result }
 {
     match answer {
-        Ticked::Done => line_of_bytes(b"tick", report, line),
-        Ticked::Refused(why) => line_of_one(b"tick refused", refusal_number(why), line),
+        Ok(()) => line_of_bytes(b"tick", report, line),
+        Err(why) => line_of_one(b"tick refused", refusal_number(why), line),
     }
 }
 
 // What a take answered, with the payload that it handed back.
-pub fn take_line(answer: Taken, payload: &[u8], line: &mut [u8]) -> usize
+#[tactic(auto, unfolding(crate::specs::Lines::take_line))]
+pub fn take_line(answer: Result<Option<Taken>, Refusal>, payload: &[u8], line: &mut [u8]) -> usize
     requires { (2048 ≤ length line.old) × (length payload.now ≤ 256) }
     ensures { LineIs (take_line answer payload.now) line.old line.new result }
 {
     match answer {
-        Taken::Nothing => line_of_word(b"take none", line),
-        Taken::Frame(frame) => line_of_frame(frame, payload, line),
-        Taken::Request(request) => line_of_request(request, line),
-        Taken::Refused(why) => line_of_one(b"take refused", refusal_number(why), line),
+        Ok(None) => line_of_word(b"take none", line),
+        Ok(Some(Taken::Frame(frame))) => line_of_frame(frame, payload, line),
+        Ok(Some(Taken::Request(request))) => line_of_request(request, line),
+        Err(why) => line_of_one(b"take refused", refusal_number(why), line),
     }
 }
 

@@ -35,3 +35,11 @@ pub enum Verdict {
     Good { nodes: usize, tx: usize, rx: usize },
     Refused { reason: Reason, record: usize },
 }
+
+// How many nodes, Tx frames and Rx frames a good plan has.
+#[derive(Clone, Copy, Debug, PartialEq, Eq)]
+pub struct PlanCounts {
+    pub nodes: usize,
+    pub tx: usize,
+    pub rx: usize,
+}

@@ -6,6 +6,7 @@ use Prim.Native.Nat.{ℕ, ◌<◌}
 use lib.Dec.{leb}
 use lib.ListN.{length}
 use borrow.Author.Tests.{leb-true}
+use Rattle.std.specs.Prelude.{Result}
 use Rattle.base.specs.Numbers.{Bytes}
 use Rattle.base.proofs.Picks.{cases}
 use Rattle.records.specs.declared.record.Id.{Id}
@@ -16,7 +17,8 @@ use Rattle.plan.specs.Check.{check_plan}
 use Rattle.plan.specs.Rows.{rows_of}
 use Rattle.area.specs.Layout.{area_length}
 use Rattle.area.specs.Claims.{RxEvent}
-use Rattle.answers.specs.declared.Opened.{Opened}
+use Rattle.plan.specs.declared.verdict.PlanCounts.{PlanCounts}
+use Rattle.answers.specs.declared.RefusedPlan.{RefusedPlan}
 use Rattle.opening.specs.Opened.{opened_answer, opened_area}
 use Rattle.tables.specs.Reads.{row_at}
 use Rattle.model.specs.Plan.{said}
@@ -62,7 +64,7 @@ module _ (x : RxFrame) (r : ℕ) where
       → Then (opened_past (opened_answer v (length a)) plan past) (opened_area (opened_answer v (length a)) plan a) (by_opening (opened_answer v (length a)) last)
   unfolding opened_answer opened_area opened_past by_opening
   after_opening past plan a last h (verdict.Good n t rows) e =
-      cases (λ (o : Opened). Then (opened_past o plan past) (opened_area o plan a) (by_opening o last)) (leb area_length (length a)) _ _
+      cases (λ (o : Result PlanCounts RefusedPlan). Then (opened_past o plan past) (opened_area o plan a) (by_opening o last)) (leb area_length (length a)) _ _
       (λ long bytes l is.
       record {
         state = begun (said plan);

@@ -6,6 +6,7 @@ use native.Mathlib.Omega.{arith}
 use native.Mathlib.Decide.{dec_lt}
 use lib.ListN.{length, get_or, take as first_of}
 use lib.Seq.{get_or-take}
+use Rattle.std.specs.Prelude.{Some, Ok}
 use Rattle.base.proofs.Apart.{differ}
 use Rattle.base.proofs.Picks.{cases}
 use Rattle.bits.specs.Payload.{bit_at}
@@ -60,11 +61,11 @@ owned {plan} good t b d =
 
 -- ---- what a take hands back is the kept payload of its frame
 
-taken_one : {x y : TakenFrame} {xs ys : List ℕ} → taken (Frame x) xs ≡ taken (Frame y) ys → (x.tx.0 ≡ y.tx.0) × (xs ≡ ys)
+taken_one : {x y : TakenFrame} {xs ys : List ℕ} → taken (Ok (Some (Frame x))) xs ≡ taken (Ok (Some (Frame y))) ys → (x.tx.0 ≡ y.tx.0) × (xs ≡ ys)
 taken_one {x} {y} e = let same : x ≡ y = cc in (ap (λ z. z.tx.0) same, cc)
 
 module _ {plan : List ℕ} (good : GoodPlan plan) (s : State) (shape : Shape (said plan) s) (n : ℕ) where
-  pub handed_kept : (x : TakenFrame) (payload : List ℕ) → (running (said plan)).answer s (take n) ≡ taken (Frame x) payload
+  pub handed_kept : (x : TakenFrame) (payload : List ℕ) → (running (said plan)).answer s (take n) ≡ taken (Ok (Some (Frame x))) payload
       → payload ≡ first_of (planned_tx plan x.tx.0).size (kept_of s x.tx.0)
   handed_kept x payload e = go (dec_lt n (said plan).nodes) (queue_on s n) refl
     where

@@ -6,6 +6,7 @@ use Prim.Native.Nat.{ℕ, ◌<◌}
 use native.Mathlib.Decide.{ℕ_discrete}
 use lib.ListN.{length}
 use borrow.Author.Tests.{eq-eqb}
+use Rattle.std.specs.Prelude.{Ok}
 use Rattle.base.proofs.Picks.{picks, by_eqb, cases}
 use Rattle.records.specs.declared.record.Id.{Id}
 use Rattle.records.specs.Ids.{same_id}
@@ -37,7 +38,7 @@ module _ {plan : List ℕ} (good : GoodPlan plan) (r : ℕ) (l : r < length (row
   Anew = (LinRow (said plan) r → ⊥) → 0 < (row_at plan r).frame.reload → (x : Acceptance) → x.ticks ≡ 0 → Timed plan r z told x
 
   abbrev newest : Option Acceptance
-  newest = by_reception (row_at plan r).frame n i payload Accepted last
+  newest = by_reception (row_at plan r).frame n i payload (Ok Accepted) last
 
   its_own : r ≡ q → Anew → Knows plan r z told newest
   unfolding by_reception

@@ -6,12 +6,14 @@ use mathlib.Core.Option.{Option}
 use Prim.Native.Nat.{ℕ, ◌<◌}
 use native.Mathlib.Omega.{arith}
 use lib.ListN.{length, get_or}
+use Rattle.std.specs.Prelude.{Result, Ok, Err}
 use Rattle.records.specs.declared.record.Id.{Id}
 use Rattle.plan.specs.Rows.{rows_of}
 use Rattle.facts.specs.Good.{GoodPlan}
 use Rattle.area.specs.Claims.{RxEvent}
+use Rattle.answers.specs.declared.Refusal.{Refusal}
 use Rattle.answers.specs.declared.Received.{Received}
-use Rattle.answers.specs.declared.Received.TheVariants.{Accepted, NoRow, TooShort, Refused}
+use Rattle.answers.specs.declared.Received.TheVariants.{Accepted, NoRow, TooShort}
 use Rattle.tables.specs.Reads.{row_at}
 use Rattle.model.specs.Plan.{said, row_in}
 use Rattle.model.specs.State.{State}
@@ -36,15 +38,15 @@ module _ {plan : List ℕ} (good : GoodPlan plan) (r : ℕ) (l : r < length (row
     abbrev z : State
     z = g.next s (reception n i payload)
 
-    abbrev After : Received → State → Type 0
+    abbrev After : Result Received Refusal → State → Type 0
     After x z = Knows plan r z (log ++ told_reception x (number_for n i (rows_of plan)) payload) (by_reception (row_at plan r).frame n i payload x last)
 
-    not_accepted : (x : Received) → (x ≡ Accepted → ⊥) → After x s
+    not_accepted : (x : Result Received Refusal) → (x ≡ Ok Accepted → ⊥) → After x s
     unfolding told_reception by_reception
-    not_accepted Accepted d = absurd (d refl)
-    not_accepted (NoRow place) d = rw (append-nil log) k
-    not_accepted TooShort d = rw (append-nil log) k
-    not_accepted (Refused why) d = rw (append-nil log) k
+    not_accepted (Ok Accepted) d = absurd (d refl)
+    not_accepted (Ok (NoRow place)) d = rw (append-nil log) k
+    not_accepted (Ok TooShort) d = rw (append-nil log) k
+    not_accepted (Err why) d = rw (append-nil log) k
 
     module _ (q : ℕ) (names : Names (said plan) n i q) (w : Accepts (said plan) g s n i payload q) where
       aside : Aside w.again z
@@ -60,19 +62,19 @@ module _ {plan : List ℕ} (good : GoodPlan plan) (r : ℕ) (l : r < length (row
           let least = due_least _ (its_prescaler good r l) _ _ ticks due in
           inl (failed_own r log q payload e, (ticks, rw holds due, omega (arith, few), omega (arith, least)))
 
-      accepts : After Accepted z
+      accepts : After (Ok Accepted) z
       unfolding told_reception
       accepts =
           Knows-accepted good r l log last n i payload q names z loaded
           (λ d. Knows-still (aside.number ∙ w.restarts.recounts.number) (timers r _ (w.restarts.rx_timers.others r d)) k)
 
-    pub knows_received : (x : Received) → g.answer s (reception n i payload) ≡ received x → After x z
+    pub knows_received : (x : Result Received Refusal) → g.answer s (reception n i payload) ≡ received x → After x z
     knows_received x e =
         ⊎_elim
         (λ (y, d, w).
         let same : x ≡ y = let f = w.answer in cc in
         rw w.stays (not_accepted x (λ is. d (sym same ∙ is))))
         (λ (q, names, not_lin, w).
-        let same : x ≡ Accepted = let f = w.answer in cc in
+        let same : x ≡ Ok Accepted = let f = w.answer in cc in
         rw same (accepts q names w))
         (reception_outcome (said plan) g (runs plan good) s shape n i payload)

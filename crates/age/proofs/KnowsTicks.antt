@@ -9,13 +9,13 @@ use native.Mathlib.Omega.{arith}
 use native.Mathlib.Decide.{ℕ_discrete}
 use lib.ListN.{length, get_or, take as first_of}
 use lib.Seq.{get_or-take}
+use Rattle.std.specs.Prelude.{Result, Ok, Err}
 use Rattle.base.proofs.Apart.{differ}
 use Rattle.plan.specs.Rows.{rows_of}
 use Rattle.facts.specs.Good.{GoodPlan}
 use Rattle.area.specs.Claims.{RxEvent}
+use Rattle.answers.specs.declared.Refusal.{Refusal}
 use Rattle.answers.specs.declared.Refusal.TheVariants.{ShortReport}
-use Rattle.answers.specs.declared.Ticked.{Ticked}
-use Rattle.answers.specs.declared.Ticked.TheVariants as OfTick
 use Rattle.tables.specs.Reads.{row_at}
 use Rattle.model.specs.Plan.{said}
 use Rattle.model.specs.State.{State}
@@ -49,7 +49,7 @@ module _ {plan : List ℕ} (good : GoodPlan plan) (r : ℕ) (l : r < length (row
   handled = its_prescaler good r l
 
   module _ (report : List ℕ) where
-    abbrev Ticks : Ticked → List ℕ → State → Type 0
+    abbrev Ticks : Result (Unit {0}) Refusal → List ℕ → State → Type 0
     Ticks x given z = Knows plan r z (log ++ told_tick x (length (rows_of plan)) given) (by_tick x last)
 
     module _ (w : Done (said plan) g s report) where
@@ -89,7 +89,7 @@ module _ {plan : List ℕ} (good : GoodPlan plan) (r : ℕ) (l : r < length (row
           ))
           (λ (now, d). absurd (d quiet)) tells
 
-      done : Ticks OfTick.Done w.given (g.next s (tick report))
+      done : Ticks (Ok tt) w.given (g.next s (tick report))
       unfolding told_tick by_tick or_else older
       done =
           record {
@@ -109,17 +109,17 @@ module _ {plan : List ℕ} (good : GoodPlan plan) (r : ℕ) (l : r < length (row
               inr (⊎_elim (λ (nothing, z). failed_stays r log told nothing ∙ f) (λ (now, d). failed_now r log told 1 now) tells, omega (arith, more)))
               (k.timed c h y e)
 
-    pub knows_ticked : (x : Ticked) (given : List ℕ) → g.answer s (tick report) ≡ ticked x given → Ticks x given (g.next s (tick report))
+    pub knows_ticked : (x : Result (Unit {0}) Refusal) (given : List ℕ) → g.answer s (tick report) ≡ ticked x given → Ticks x given (g.next s (tick report))
     unfolding told_tick by_tick
     knows_ticked x given e = go (tick_outcome (said plan) g meets s shape report)
       where
         go : TickOutcome (said plan) g s report → Ticks x given (g.next s (tick report))
         go (inl (stays, u)) =
             let f = ((meets.tick s shape report).refused u).answer in
-            let same : x ≡ OfTick.Refused ShortReport = cc in
+            let same : x ≡ Err ShortReport = cc in
             rw (same, stays, append-nil log) k
         go (inr (u, w)) =
             let f = w.answer in
-            let same : x ≡ OfTick.Done = cc in
+            let same : x ≡ Ok tt = cc in
             let its : given ≡ w.given = cc in
             rw (same, its) (done w)

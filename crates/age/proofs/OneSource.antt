@@ -5,6 +5,7 @@ use Prim.Native.Nat.{ℕ, zero, suc, ◌%◌, ◌<◌}
 use native.Mathlib.Omega.{arith}
 use native.Mathlib.Decide.{ℕ_discrete}
 use borrow.Author.Tests.{eq-eqb, ne_eqb}
+use Rattle.std.specs.Prelude.{Some, Ok}
 use Rattle.base.specs.Pick.{pick}
 use Rattle.base.specs.Numbers.{Bytes, at_most}
 use Rattle.base.proofs.Picks.{by_eqb, alike}
@@ -30,7 +31,6 @@ use Rattle.plan.specs.Rows.{copy, with_failure, claims_from, awaited, row_of, ro
 use Rattle.facts.specs.Good.{Each}
 use Rattle.facts.specs.PlanCases.{head, node, signal, destination}
 use Rattle.answers.specs.declared.Received.TheVariants.{Accepted}
-use Rattle.answers.specs.declared.Ticked.TheVariants.{Done}
 use Rattle.answers.specs.declared.Framing.TheVariants as framing
 use Rattle.answers.specs.declared.TakenFrame.{TakenFrame}
 use Rattle.answers.specs.declared.Taken.TheVariants.{Frame}
@@ -183,11 +183,11 @@ module _ (e r p : ℕ) where
   unfolding begun mapped
   begins = refl
 
-  pub fix_answer : (n v : ℕ) → answer_of (plan_of e r p) (blank n v) a_fix ≡ received Accepted
+  pub fix_answer : (n v : ℕ) → answer_of (plan_of e r p) (blank n v) a_fix ≡ received (Ok Accepted)
   unfolding answer_of received_answer find same_id found_answer pick is_lin
   fix_answer n v = refl
 
-  pub take_answer : (n v : ℕ) → answer_of (plan_of e r p) (fixed n v) (take 0) ≡ taken (Frame taken_frame) given
+  pub take_answer : (n v : ℕ) → answer_of (plan_of e r p) (fixed n v) (take 0) ≡ taken (Ok (Some (Frame taken_frame))) given
   unfolding answer_of taken_answer taken_payload oldest_answer oldest_payload entry_answer handed framing_of pick is_lin
   take_answer n v = refl
 
@@ -195,7 +195,7 @@ module _ (e r p : ℕ) where
     abbrev s : ℕ → State
     s timer = state_of kept waiting n timer
 
-    pub answer_of_tick : answer_of (plan_of e r p) (s v) a_tick ≡ ticked Done (tick_report (plan_of e r p) (s v) (0 ∷ []))
+    pub answer_of_tick : answer_of (plan_of e r p) (s v) a_tick ≡ ticked (Ok tt) (tick_report (plan_of e r p) (s v) (0 ∷ []))
     unfolding answer_of tick_answer pick
     answer_of_tick = refl
 

@@ -7,6 +7,7 @@ use native.Mathlib.Nat.{zero-add, add-zero}
 use native.Mathlib.Omega.{arith}
 use lib.ListN.{length, replicate}
 use borrow.Author.Tests.{le-leb}
+use Rattle.std.specs.Prelude.{Ok}
 use Rattle.base.specs.Pick.{pick}
 use Rattle.base.proofs.Picks.{picks}
 use Rattle.records.specs.declared.record.Id.TheVariants.{Standard}
@@ -14,9 +15,7 @@ use Rattle.records.specs.Ids.{same_id}
 use Rattle.clock.specs.Counter.{Prescaler}
 use Rattle.records.specs.declared.record.RxFrame.{RxFrame}
 use Rattle.records.specs.declared.record.Entry.{Entry}
-use Rattle.answers.specs.declared.Opened.TheVariants.{Open}
 use Rattle.answers.specs.declared.Received.TheVariants.{Accepted}
-use Rattle.answers.specs.declared.Ticked.TheVariants.{Done}
 use Rattle.opening.specs.Opened.{opened_answer, opened_area}
 use Rattle.reception.specs.Reception.{received_answer}
 use Rattle.ticking.specs.Tick.{tick_answer}
@@ -62,7 +61,7 @@ module _ {e r p : ℕ} (enable : Enable e) (byte : r < 256) (prescaler : Prescal
   does h c = rw (one_source_says e r p) at (follows h c)
 
   module _ {kept : List ℕ} {waiting : List Entry} {n v : ℕ} {a : List ℕ} (h : Held (one_source e r p) a (state_of kept waiting n v)) where
-    tick_done : tick_answer a (0 ∷ []) ≡ Done
+    tick_done : tick_answer a (0 ∷ []) ≡ Ok tt
     unfolding answer_in
     tick_done = let x = (does h a_tick).0 ∙ answer_of_tick e r p kept waiting n v in cc
 
@@ -99,7 +98,7 @@ module _ {e r p : ℕ} (enable : Enable e) (byte : r < 256) (prescaler : Prescal
   -- ---- from the opening on
 
   module _ (a : List ℕ) (long : 32768 ≤ length a) where
-    opens : open_answer (one_source e r p) a ≡ Open 1 1 1
+    opens : open_answer (one_source e r p) a ≡ Ok (record { nodes = 1; tx = 1; rx = 1 })
     unfolding opened_answer
     opens = rw (one_source_good r enable prescaler) (picks _ _ _ (le-leb _ _ long))
 
@@ -125,7 +124,7 @@ module _ {e r p : ℕ} (enable : Enable e) (byte : r < 256) (prescaler : Prescal
     held₃ : Held (one_source e r p) a₃ (fixed 1 r)
     held₃ = rw (fix_next r p enable 1 (fell r p 0 0)) at (does held₂ a_fix).1
 
-    accepts : received_answer a₂ 0 (Standard 0x20) brought ≡ Accepted
+    accepts : received_answer a₂ 0 (Standard 0x20) brought ≡ Ok Accepted
     unfolding answer_in
     accepts = let x = (does held₂ a_fix).0 ∙ fix_answer e r p 1 (fell r p 0 0) in cc
 

@@ -1,7 +1,7 @@
 -- "How old can a fix be?" (document 02, Ticket 8): "For a CAN source with its indicator enabled and reload r above 0, prescaler p: if a take hands
 -- back a kept payload whose failure bit is 0, and that source was accepted at least once since opening, then fewer than r times p unrefused ticks have
 -- passed since the last acceptance, and the frame's bits from that source are those of that acceptance."
-use Rattle.std.specs.Prelude.{◌≡◌, List, ℕ, ◌+◌, ◌*◌, ◌<◌, length}
+use Rattle.std.specs.Prelude.{◌≡◌, List, ℕ, ◌+◌, ◌*◌, ◌<◌, length, Some, Ok}
 use Rattle.std.proofs.Math.Option.{some}
 use Rattle.base.specs.Numbers.{Bytes}
 use Rattle.bits.specs.Payload.{bit_at}
@@ -24,7 +24,7 @@ pub record Handed (a : List ℕ) (calls : List Step) (plan : List ℕ) (t : ℕ)
   pub node : ℕ
   pub frame : TakenFrame
   pub tx : frame.tx.0 ≡ t
-  pub takes : answer_in (after_in a calls) (take node) ≡ taken (Frame frame) payload
+  pub takes : answer_in (after_in a calls) (take node) ≡ taken (Ok (Some (Frame frame))) payload
 
 -- "For a CAN source with its indicator enabled": Rx frame r, whose indicator owns the bit at its position in Tx frame t; "that source was accepted at
 -- least once since opening". A LIN source has no timer that sets its bit, so of it the sentence does not speak

@@ -3,6 +3,7 @@
 
 pub mod claims;
 pub mod frames;
+pub mod guards;
 pub mod header;
 pub mod layout;
 pub mod queue;

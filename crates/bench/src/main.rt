@@ -14,7 +14,6 @@ ghost use Rattle.text.specs.Text.{LineIs};
 ghost use Rattle.output.specs.Output.{received_text, responded_text, silent_text, fresh, ticked_text, taken_text};
 ghost use Rattle.output.specs.Output.{line_at, area_at, next_at, text_from, open_of, plan_text, bench_output};
 
-use answers::Opened;
 use area::layout::AREA_LENGTH;
 use events::{Event, Front, event_at, front_of, payload_at};
 use lines::{bad_line, plan_line, response_line, rx_line, silence_line, take_line, tick_line};
@@ -188,16 +187,12 @@ fn opening(input: &[u8], end: usize, area: &mut [u8], out: &mut [u8]) -> Begun
     let answer = open(&input[2..end], area);
     let size = plan_line(answer, out);
     match answer {
-        Opened::Open {
-            nodes: _,
-            tx: _,
-            rx,
-        } => Begun {
+        Ok(counts) => Begun {
             size,
             next: end,
-            rx,
+            rx: counts.rx,
         },
-        Opened::Refused { why: _, record: _ } => Begun {
+        Err(_) => Begun {
             size,
             next: input.len(),
             rx: 0,

@@ -4,14 +4,13 @@ use mathlib.Core.Bool.{Bool, true, false}
 use mathlib.Core.List.{List}
 use Prim.Native.Nat.{ℕ, ◌%◌}
 use lib.Dec.{ltb}
+use Rattle.std.specs.Prelude.{Ok, Err}
 use Rattle.base.specs.Pick.{pick}
 use Rattle.base.proofs.Picks.{both}
 use Rattle.plan.specs.Refusals.{number_of}
 use Rattle.area.specs.Layout.{marked, node_count}
 use Rattle.answers.specs.declared.Refusal.{Refusal}
 use Rattle.answers.specs.declared.Responded.TheVariants.{Accepted}
-use Rattle.answers.specs.declared.Silence.TheVariants as silence
-use Rattle.answers.specs.declared.Taken.TheVariants.{Refused}
 use Rattle.answers.specs.Answers.{refusal_number, received_number, responded_number, silence_number}
 use Rattle.opening.specs.Opened.{opened_area}
 use Rattle.reception.proofs.ReceptionLaws.{stays}
@@ -35,22 +34,22 @@ unfolding pick
 chosen v a true p q e = p e
 chosen v a false p q e = q e
 
-taken_stays : (a : List ℕ) (n : ℕ) (why : Refusal) → taken_answer a n ≡ Refused why → taken_area a n ≡ a
+taken_stays : (a : List ℕ) (n : ℕ) (why : Refusal) → taken_answer a n ≡ Err why → taken_area a n ≡ a
 unfolding taken_answer taken_area
 taken_stays a n why =
-    chosen (Refused why) a (marked a)
-    (chosen (Refused why) a (ltb n (node_count a)) (λ e. absurd (taken_unrefused a n why e)) (λ e. refl))
+    chosen (Err why) a (marked a)
+    (chosen (Err why) a (ltb n (node_count a)) (λ e. absurd (taken_unrefused a n why e)) (λ e. refl))
     (λ e. refl)
 
-response_stays : (a : List ℕ) (n id : ℕ) (payload : List ℕ) (sum : ℕ) → (responded_answer a n id payload sum ≡ Accepted → ⊥)
+response_stays : (a : List ℕ) (n id : ℕ) (payload : List ℕ) (sum : ℕ) → (responded_answer a n id payload sum ≡ Ok Accepted → ⊥)
     → responded_area a n id payload sum ≡ a
 response_stays a n id payload sum =
-    by_responded a n id payload sum (λ x b. (x ≡ Accepted → ⊥) → b ≡ a) (λ x d e. refl) (λ k r f d. absurd (d refl))
+    by_responded a n id payload sum (λ x b. (x ≡ Ok Accepted → ⊥) → b ≡ a) (λ x d e. refl) (λ k r f d. absurd (d refl))
 
-silence_stays : (a : List ℕ) (n id : ℕ) (why : Refusal) → silent_answer a n id ≡ silence.Refused why → silent_area a n id ≡ a
+silence_stays : (a : List ℕ) (n id : ℕ) (why : Refusal) → silent_answer a n id ≡ Err why → silent_area a n id ≡ a
 silence_stays a n id why =
-    by_silent a n id (λ x b. x ≡ silence.Refused why → b ≡ a) (λ w e. refl)
-    (λ k r f. both (λ x. x ≡ silence.Refused why → expired_area a (r.0 % 256) ≡ a) _ _ _ (λ e. absurd (no cc)) (λ e. absurd (no cc)))
+    by_silent a n id (λ x b. x ≡ Err why → b ≡ a) (λ w e. refl)
+    (λ k r f. both (λ x. x ≡ Err why → expired_area a (r.0 % 256) ≡ a) _ _ _ (λ e. absurd (no cc)) (λ e. absurd (no cc)))
 
 writes_nothing : (a : List ℕ) → RefusalsWriteNothing a
 unfolding area_after stepped opened_area ticked_area ticked_report taken_payload

@@ -7,6 +7,7 @@ use native.Mathlib.Omega.{arith}
 use borrow.Author.Tests.{leb-true, ltb-true}
 use lib.Dec.{leb, ltb}
 use lib.ListN.{length}
+use Rattle.std.specs.Prelude.{Result}
 use Rattle.base.specs.Numbers.{byte_at, Bytes}
 use Rattle.base.proofs.Picks.{both, cases}
 use Rattle.base.proofs.Ranges.{at_most-le}
@@ -17,7 +18,8 @@ use Rattle.facts.proofs.Bounds.{good_bounds}
 use Rattle.area.specs.Layout.{area_length, node_count_byte, marked, order, node_count, claims}
 use Rattle.area.proofs.Kept.{Kept, Kept-refl, Kept-then, Kept-dequeued, Kept-all_done, in_plan, marked_kept}
 use Rattle.area.proofs.NarrowLaws.{narrow_claims}
-use Rattle.answers.specs.declared.Opened.{Opened}
+use Rattle.plan.specs.declared.verdict.PlanCounts.{PlanCounts}
+use Rattle.answers.specs.declared.RefusedPlan.{RefusedPlan}
 use Rattle.opening.specs.Opened.{opened_answer, opened_area}
 use Rattle.opening.proofs.OpenedLaws.{opened-length, opened_past_area, opened-marked}
 use Rattle.reception.proofs.ReceptionLaws.{kept_received}
@@ -68,7 +70,7 @@ opening_stays : (plan a : List ℕ) → Stays (opening plan) a
 unfolding area_after stepped opened_answer opened_area
 opening_stays plan a = let p = go (check_plan plan) refl in record { size = p.0; mark = λ m. is_marked _ (p.1 (marks m)); past = p.2 }
   where
-    P : Opened → Type 0
+    P : Result PlanCounts RefusedPlan → Type 0
     P x =
         (length (opened_area x plan a) ≡ length a) × (marked a ≡ true → marked (opened_area x plan a) ≡ true)
         × ((j : ℕ) → area_length ≤ j → byte_at (opened_area x plan a) j ≡ byte_at a j)

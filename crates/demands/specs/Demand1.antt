@@ -2,7 +2,7 @@
 -- numbers in document 01, for the reasons there and no others. A refusal changes no byte of the area or the caller's report."
 -- That each call is safe and ends is the toolchain's verdict on each function, for all inputs: no call has a `requires`. The rest is here, of any
 -- area whatever; refusals 12 to 16 are rules of demand 2.
-use Rattle.std.specs.Prelude.{◌≡◌, ◌↔◌, ◌⊎◌, List, [], ℕ, ◌≤◌, ◌<◌, length}
+use Rattle.std.specs.Prelude.{◌≡◌, ◌↔◌, ◌⊎◌, List, [], ℕ, ◌≤◌, ◌<◌, length, Some, None, Ok, Err}
 use Rattle.base.specs.Numbers.{byte_at, Bytes}
 use Rattle.records.specs.declared.record.Id.{Id}
 use Rattle.records.specs.Records.{records}
@@ -13,14 +13,9 @@ use Rattle.facts.specs.Good.{count_of}
 use Rattle.refusals.specs.Table.{Refuses, Unrefused}
 use Rattle.answers.specs.declared.Refusal.{Refusal}
 use Rattle.answers.specs.declared.Refusal.TheVariants.{Plan as BadPlan, ShortArea, NotOpen}
-use Rattle.answers.specs.declared.Opened.TheVariants as OfOpening
-use Rattle.answers.specs.declared.Received.TheVariants as OfReception
 use Rattle.answers.specs.declared.Responded.TheVariants as OfResponse
-use Rattle.answers.specs.declared.Silence.TheVariants as OfSilence
-use Rattle.answers.specs.declared.Ticked.TheVariants as OfTick
 use Rattle.answers.specs.declared.TakenRequest.{TakenRequest}
 use Rattle.answers.specs.declared.Taken.TheVariants as OfTake
-use Rattle.answers.specs.declared.Fullness.TheVariants as OfFullness
 use Rattle.reception.specs.Reception.{received_answer}
 use Rattle.polling.specs.Polling.{responded_answer, silent_answer}
 use Rattle.ticking.specs.Tick.{tick_answer, ticked_report}
@@ -41,43 +36,43 @@ pub record Succeeds (plan a : List ℕ) (n t r : ℕ) : Type 0 where
   pub rx : r ≡ count_of rx_stage (records plan)
 
 pub record OpeningAnswers (plan a : List ℕ) : Type 0 where
-  pub bad : (reason : Reason) (at : ℕ) → (open_answer plan a ≡ OfOpening.Refused (BadPlan reason) at) ↔ Refuses plan (number_of reason) at
+  pub bad : (reason : Reason) (at : ℕ) → (open_answer plan a ≡ Err (record { why = BadPlan reason; record_number = at })) ↔ Refuses plan (number_of reason) at
   -- 10: "the plan is good and the area is shorter than 32,768 bytes"; "Refusal 10 carries record number 0."
-  pub short : (at : ℕ) → (open_answer plan a ≡ OfOpening.Refused ShortArea at) ↔ (Unrefused plan × (length a < 32768) × (at ≡ 0))
-  pub good : (n t r : ℕ) → (open_answer plan a ≡ OfOpening.Open n t r) ↔ Succeeds plan a n t r
-  pub nothing_else : (why : Refusal) (at : ℕ) → open_answer plan a ≡ OfOpening.Refused why at
+  pub short : (at : ℕ) → (open_answer plan a ≡ Err (record { why = ShortArea; record_number = at })) ↔ (Unrefused plan × (length a < 32768) × (at ≡ 0))
+  pub good : (n t r : ℕ) → (open_answer plan a ≡ Ok (record { nodes = n; tx = t; rx = r })) ↔ Succeeds plan a n t r
+  pub nothing_else : (why : Refusal) (at : ℕ) → open_answer plan a ≡ Err (record { why = why; record_number = at })
       → ((reason : Reason) × (why ≡ BadPlan reason)) ⊎ (why ≡ ShortArea)
 
 -- ---- 11: "in a call, the area is shorter than 32,768 bytes or does not begin with hex 47 57"
 
 pub record NotOpened (a : List ℕ) : Type 0 where
-  pub reception : (n : ℕ) (id : Id) (payload : List ℕ) → (received_answer a n id payload ≡ OfReception.Refused NotOpen) ↔ (Marked a → ⊥)
-  pub response : (n id : ℕ) (payload : List ℕ) (sum : ℕ) → (responded_answer a n id payload sum ≡ OfResponse.Refused NotOpen) ↔ (Marked a → ⊥)
-  pub no_response : (n id : ℕ) → (silent_answer a n id ≡ OfSilence.Refused NotOpen) ↔ (Marked a → ⊥)
-  pub tick : (report : List ℕ) → (tick_answer a report ≡ OfTick.Refused NotOpen) ↔ (Marked a → ⊥)
-  pub take : (n : ℕ) → (taken_answer a n ≡ OfTake.Refused NotOpen) ↔ (Marked a → ⊥)
-  pub fullness : (t : ℕ) → (fullness_answer a t ≡ OfFullness.Refused NotOpen) ↔ (Marked a → ⊥)
+  pub reception : (n : ℕ) (id : Id) (payload : List ℕ) → (received_answer a n id payload ≡ Err NotOpen) ↔ (Marked a → ⊥)
+  pub response : (n id : ℕ) (payload : List ℕ) (sum : ℕ) → (responded_answer a n id payload sum ≡ Err NotOpen) ↔ (Marked a → ⊥)
+  pub no_response : (n id : ℕ) → (silent_answer a n id ≡ Err NotOpen) ↔ (Marked a → ⊥)
+  pub tick : (report : List ℕ) → (tick_answer a report ≡ Err NotOpen) ↔ (Marked a → ⊥)
+  pub take : (n : ℕ) → (taken_answer a n ≡ Err NotOpen) ↔ (Marked a → ⊥)
+  pub fullness : (t : ℕ) → (fullness_answer a t ≡ Err NotOpen) ↔ (Marked a → ⊥)
 
 -- ---- "A refusal writes nothing."
 
 pub record RefusalsWriteNothing (a : List ℕ) : Type 0 where
-  pub of_opening : (plan : List ℕ) (why : Refusal) (at : ℕ) → open_answer plan a ≡ OfOpening.Refused why at → stepped a (opening plan) ≡ a
-  pub of_reception : (n : ℕ) (id : Id) (payload : List ℕ) (why : Refusal) → received_answer a n id payload ≡ OfReception.Refused why
+  pub of_opening : (plan : List ℕ) (why : Refusal) (at : ℕ) → open_answer plan a ≡ Err (record { why = why; record_number = at }) → stepped a (opening plan) ≡ a
+  pub of_reception : (n : ℕ) (id : Id) (payload : List ℕ) (why : Refusal) → received_answer a n id payload ≡ Err why
       → area_after a (reception n id payload) ≡ a
-  pub of_response : (n id : ℕ) (payload : List ℕ) (sum : ℕ) (why : Refusal) → responded_answer a n id payload sum ≡ OfResponse.Refused why
+  pub of_response : (n id : ℕ) (payload : List ℕ) (sum : ℕ) (why : Refusal) → responded_answer a n id payload sum ≡ Err why
       → area_after a (response n id payload sum) ≡ a
-  pub of_no_response : (n id : ℕ) (why : Refusal) → silent_answer a n id ≡ OfSilence.Refused why → area_after a (no_response n id) ≡ a
+  pub of_no_response : (n id : ℕ) (why : Refusal) → silent_answer a n id ≡ Err why → area_after a (no_response n id) ≡ a
   -- "A wrong one received is answer 3, after 2, and changes nothing." (document 02, Ticket 2)
-  pub of_wrong_sum : (n id : ℕ) (payload : List ℕ) (sum : ℕ) → responded_answer a n id payload sum ≡ OfResponse.WrongSum
+  pub of_wrong_sum : (n id : ℕ) (payload : List ℕ) (sum : ℕ) → responded_answer a n id payload sum ≡ Ok OfResponse.WrongSum
       → area_after a (response n id payload sum) ≡ a
-  pub of_tick : (report : List ℕ) (why : Refusal) → tick_answer a report ≡ OfTick.Refused why → area_after a (tick report) ≡ a
-  pub of_report : (report : List ℕ) (why : Refusal) → tick_answer a report ≡ OfTick.Refused why → ticked_report (tick_answer a report) a report ≡ report
-  pub of_take : (n : ℕ) (why : Refusal) → taken_answer a n ≡ OfTake.Refused why → area_after a (take n) ≡ a
+  pub of_tick : (report : List ℕ) (why : Refusal) → tick_answer a report ≡ Err why → area_after a (tick report) ≡ a
+  pub of_report : (report : List ℕ) (why : Refusal) → tick_answer a report ≡ Err why → ticked_report (tick_answer a report) a report ≡ report
+  pub of_take : (n : ℕ) (why : Refusal) → taken_answer a n ≡ Err why → area_after a (take n) ≡ a
   -- "with "none" or a refusal, the empty part"
-  pub of_payload : (n : ℕ) (why : Refusal) → taken_answer a n ≡ OfTake.Refused why → taken_payload (area_after a (take n)) (taken_answer a n) ≡ []
-  pub of_none : (n : ℕ) → taken_answer a n ≡ OfTake.Nothing → taken_payload (area_after a (take n)) (taken_answer a n) ≡ []
+  pub of_payload : (n : ℕ) (why : Refusal) → taken_answer a n ≡ Err why → taken_payload (area_after a (take n)) (taken_answer a n) ≡ []
+  pub of_none : (n : ℕ) → taken_answer a n ≡ Ok None → taken_payload (area_after a (take n)) (taken_answer a n) ≡ []
   -- "A take answers a request (.. the empty part ..)" (document 02, Ticket 2)
-  pub of_request : (n : ℕ) (x : TakenRequest) → taken_answer a n ≡ OfTake.Request x → taken_payload (area_after a (take n)) (taken_answer a n) ≡ []
+  pub of_request : (n : ℕ) (x : TakenRequest) → taken_answer a n ≡ Ok (Some (OfTake.Request x)) → taken_payload (area_after a (take n)) (taken_answer a n) ≡ []
 
 -- ---- "hex 47 57 at its start, which no later call alters"; "Bytes past the area's first 32,768 never change."
 

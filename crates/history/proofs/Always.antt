@@ -7,6 +7,7 @@ use Prim.Native.Nat.{ℕ}
 use lib.Dec.{leb}
 use lib.ListN.{length}
 use borrow.Author.Tests.{leb-true}
+use Rattle.std.specs.Prelude.{Result}
 use Rattle.base.proofs.Picks.{cases}
 use Rattle.plan.specs.declared.verdict.Verdict.{Verdict}
 use Rattle.plan.specs.declared.verdict.Verdict.TheVariants as verdict
@@ -14,7 +15,8 @@ use Rattle.plan.specs.Check.{check_plan}
 use Rattle.facts.specs.Good.{GoodPlan}
 use Rattle.facts.proofs.GoodFacts.{good_facts}
 use Rattle.area.specs.Layout.{area_length, LongEnough}
-use Rattle.answers.specs.declared.Opened.{Opened}
+use Rattle.plan.specs.declared.verdict.PlanCounts.{PlanCounts}
+use Rattle.answers.specs.declared.RefusedPlan.{RefusedPlan}
 use Rattle.area.specs.Claims.{RxEvent}
 use Rattle.opening.specs.Opened.{opened, opened_answer, opened_area}
 use Rattle.tables.specs.Reads.{Reads, Begun}
@@ -56,7 +58,7 @@ module _ (Q : List ℕ → List RxEvent → List ℕ → Type 0)
       → Then (opened_past (opened_answer v (length a)) plan past) (opened_area (opened_answer v (length a)) plan a)
   unfolding opened_answer opened_area opened_past
   after_opening past plan a h (verdict.Good n t r) e =
-      cases (λ (x : Opened). Then (opened_past x plan past) (opened_area x plan a)) (leb area_length (length a)) _ _
+      cases (λ (x : Result PlanCounts RefusedPlan). Then (opened_past x plan past) (opened_area x plan a)) (leb area_length (length a)) _ _
       (λ long. begun plan a n t r e (leb-true _ _ long))
       (λ short. h)
   after_opening past plan a h (verdict.Refused reason number) e = h

@@ -2,11 +2,12 @@
 use mathlib.Core.Path.{◌≡◌, refl, sym, ◌∙◌}
 use Prim.Native.Nat.{ℕ}
 use lib.Dec.{eqb}
+use Rattle.std.specs.Prelude.{Ok}
 use Rattle.base.specs.Pick.{pick}
 use Rattle.base.proofs.Apart.{differ}
 use Rattle.base.proofs.Picks.{by_eqb}
 use Rattle.records.specs.declared.record.Id.TheVariants.{Standard}
-use Rattle.answers.specs.declared.Silence.TheVariants.{Short, Long}
+use Rattle.answers.specs.declared.Timeout.TheVariants.{Short, Long}
 use Rattle.polling.specs.Polling.{silent_answer}
 use Rattle.tables.specs.Reads.{row_at}
 use Rattle.history.specs.Calls.{answer_in, after_in}
@@ -17,13 +18,13 @@ use Rattle.history.proofs.Named.{by_silence}
 use Rattle.history.proofs.Left.{Left, last_left, too_few}
 use Rattle.history.proofs.Remaining.{remaining}
 
-silence_tells : (size n v : ℕ) → Left size n v → TellsSilence size n (pick (eqb v 1) Long Short)
-silence_tells size n v w = by_eqb (TellsSilence size n) v 1 Long Short last more
+silence_tells : (size n v : ℕ) → Left size n v → TellsSilence size n (pick (eqb v 1) (Ok Long) (Ok Short))
+silence_tells size n v w = by_eqb (TellsSilence size n) v 1 (Ok Long) (Ok Short) last more
   where
-    last : v ≡ 1 → TellsSilence size n Long
+    last : v ≡ 1 → TellsSilence size n (Ok Long)
     last e = let x = (last_left size n v w).0 e in record { exactly = (λ f. x, λ y. refl); few = λ l f. too_few size n l x.1 }
 
-    more : (v ≡ 1 → ⊥) → TellsSilence size n Short
+    more : (v ≡ 1 → ⊥) → TellsSilence size n (Ok Short)
     more d = record { exactly = (λ e. absurd (differ cc), λ x. absurd (d ((last_left size n v w).1 x))); few = λ l e. differ cc }
 
 pub long_silences : LongSilences

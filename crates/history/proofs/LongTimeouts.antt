@@ -8,13 +8,13 @@ use lib.Dec.{eqb, leb}
 use lib.ListN.{length, get_or, take}
 use lib.Seq.{length-take-le}
 use borrow.Author.Tests.{ne_eqb, leb-true}
+use Rattle.std.specs.Prelude.{Ok, Err}
 use Rattle.base.specs.Pick.{pick}
 use Rattle.base.specs.Numbers.{byte_at}
 use Rattle.base.proofs.Picks.{both, by_eqb, picks, passes}
 use Rattle.plan.specs.Rows.{rows_of}
 use Rattle.facts.specs.Good.{GoodPlan}
 use Rattle.answers.specs.declared.Refusal.TheVariants.{ShortReport}
-use Rattle.answers.specs.declared.Ticked.TheVariants.{Done, Refused}
 use Rattle.area.specs.Layout.{long, counter, tx_count, rx_count}
 use Rattle.area.specs.Claims.{expired}
 use Rattle.ticking.specs.Tick.{tx_ticks, expired_report, expiry_report, rx_ticks, rx_report, reported, tick_answer, ticked_report}
@@ -77,21 +77,21 @@ module _ (plan : List ℕ) (good : GoodPlan plan) (a : List ℕ) (reads : Reads 
   row_tells n w room =
       rw (byte_reported (counter a) (rx_count a) tx report r (omega (arith, reads.header.rx)) room, counter_stays room) (tells _ n _ w _ _ _)
 
-  given_tells : (n : ℕ) → Left (row_at plan r).frame.long n (byte_at a (long r)) → (given : List ℕ) → answer_in a (tick report) ≡ ticked Done given
+  given_tells : (n : ℕ) → Left (row_at plan r).frame.long n (byte_at a (long r)) → (given : List ℕ) → answer_in a (tick report) ≡ ticked (Ok tt) given
       → Tells (row_at plan r).frame.long n (get_or given r 0)
   unfolding answer_in ticked_report
   given_tells n w given e = go (leb (rx_count a) (length report)) refl
     where
-      answer : tick_answer a report ≡ pick (leb (rx_count a) (length report)) Done (Refused ShortReport)
+      answer : tick_answer a report ≡ pick (leb (rx_count a) (length report)) (Ok tt) (Err ShortReport)
       answer = unfold tick_answer in picks _ _ _ reads.header.mark
 
       go : (t : Bool) → leb (rx_count a) (length report) ≡ t → Tells (row_at plan r).frame.long n (get_or given r 0)
       go true m =
-          let done : tick_answer a report ≡ Done = answer ∙ picks _ _ _ m in
+          let done : tick_answer a report ≡ Ok tt = answer ∙ picks _ _ _ m in
           let same : given ≡ reported (counter a) (rx_count a) tx report = one_given {v = reported (counter a) (rx_count a) tx report} e (rw done) in
           rw same (row_tells n w (leb-true _ _ m))
       go false m =
-          let short : tick_answer a report ≡ Refused ShortReport = answer ∙ passes _ _ _ m in
+          let short : tick_answer a report ≡ Err ShortReport = answer ∙ passes _ _ _ m in
           absurd (not_refused {v = report} {why = ShortReport} e (rw short))
 
 pub long_timeouts : LongTimeouts

@@ -7,11 +7,10 @@ use Prim.Native.Nat.{ℕ, ◌<◌}
 use native.Mathlib.Omega.{arith}
 use lib.ListN.{length, take}
 use borrow.Author.Tests.{ne_eqb}
+use Rattle.std.specs.Prelude.{Result, Ok, Err}
 use Rattle.base.specs.Pick.{pick}
 use Rattle.plan.specs.Rows.{tx_of}
 use Rattle.facts.specs.Good.{GoodPlan}
-use Rattle.answers.specs.declared.Ticked.{Ticked}
-use Rattle.answers.specs.declared.Ticked.TheVariants.{Done, Refused}
 use Rattle.area.specs.Claims.{accepted, expired}
 use Rattle.tables.specs.Reads.{Reads}
 use Rattle.history.specs.Calls.{area_after, stepped}
@@ -24,6 +23,7 @@ use Rattle.history.proofs.Replay.{turned, turned_other, replay}
 use Rattle.history.proofs.Owned.{bit_turns}
 use Rattle.history.proofs.Ticks.{report_leaves, tick_turns}
 use Rattle.history.proofs.Receptions.{accepted_turns, responded_turns}
+use Rattle.answers.specs.declared.Refusal.{Refusal}
 
 -- an expiry, where its frame's indicator does not own it
 turned-expired : (o : ℕ) (w : Owner) (v r : ℕ) → w ≢ indicator r → turned o w v (expired r) ≡ v
@@ -37,10 +37,10 @@ module _ (o : ℕ) (w : Owner) (d : IsIndicator w → ⊥) where
   unfolding IsIndicator
   no_indicator r e = d (subst IsIndicator (sym e) tt)
 
-  tick_leaves : (x : Ticked) (n : ℕ) (report : List ℕ) (v : ℕ) → replay (turned o w) (told_tick x n report) v ≡ v
+  tick_leaves : (x : Result (Unit {0}) Refusal) (n : ℕ) (report : List ℕ) (v : ℕ) → replay (turned o w) (told_tick x n report) v ≡ v
   unfolding told_tick replay
-  tick_leaves Done n report v = report_leaves (turned o w) 0 (take n report) (λ q u l m. turned-expired o w u q (no_indicator q)) v
-  tick_leaves (Refused why) n report v = refl
+  tick_leaves (Ok done) n report v = report_leaves (turned o w) 0 (take n report) (λ q u l m. turned-expired o w u q (no_indicator q)) v
+  tick_leaves (Err why) n report v = refl
 
 pub only_theirs :
     (plan : List ℕ) → GoodPlan plan → (a : List ℕ) → Reads plan a → (t b : ℕ) → t < length (tx_of plan) → b < 64 → OnlyTheirs plan a t b

@@ -6,18 +6,20 @@ use Prim.Native.Nat.{ℕ, ◌<◌}
 use native.Mathlib.Omega.{arith}
 use lib.Dec.{eqb}
 use lib.ListN.{length}
+use Rattle.std.specs.Prelude.{Result, Ok, Err}
 use Rattle.base.specs.Numbers.{byte_at}
 use Rattle.base.proofs.Picks.{both}
 use Rattle.records.specs.declared.record.Id.{Id}
 use Rattle.records.specs.declared.record.Id.TheVariants.{Standard}
 use Rattle.plan.specs.Rows.{rows_of}
 use Rattle.facts.specs.Good.{GoodPlan}
+use Rattle.answers.specs.declared.Refusal.{Refusal}
 use Rattle.answers.specs.declared.Received.{Received}
-use Rattle.answers.specs.declared.Received.TheVariants.{Accepted, NoRow, TooShort, Refused}
+use Rattle.answers.specs.declared.Received.TheVariants.{Accepted, NoRow, TooShort}
 use Rattle.answers.specs.declared.Responded.{Responded}
 use Rattle.answers.specs.declared.Responded.TheVariants as responded
-use Rattle.answers.specs.declared.Silence.{Silence}
-use Rattle.answers.specs.declared.Silence.TheVariants as silence
+use Rattle.answers.specs.declared.Timeout.{Timeout}
+use Rattle.answers.specs.declared.Timeout.TheVariants as silence
 use Rattle.area.specs.Layout.{long}
 use Rattle.area.specs.Claims.{RxEvent, accepted}
 use Rattle.reception.specs.Reception.{accepted_area, received_answer, received_area}
@@ -56,11 +58,11 @@ module _ {plan : List ℕ} (good : GoodPlan plan) {P : ℕ → Type 0} {now : Li
         reception_cases plan good a reads n id payload (λ x c. now c ≡ replay turn (told_reception x (number_for n id (rows_of plan)) payload) (now a)) other
         (λ r x. rw (number_named plan good n id r x) (accepted_turns r payload x.exists))
       where
-        other : (x : Received) → (x ≡ Accepted → ⊥) → now a ≡ replay turn (told_reception x (number_for n id (rows_of plan)) payload) (now a)
-        other Accepted d = absurd (d refl)
-        other (NoRow place) d = refl
-        other TooShort d = refl
-        other (Refused why) d = refl
+        other : (x : Result Received Refusal) → (x ≡ Ok Accepted → ⊥) → now a ≡ replay turn (told_reception x (number_for n id (rows_of plan)) payload) (now a)
+        other (Ok Accepted) d = absurd (d refl)
+        other (Ok (NoRow place)) d = refl
+        other (Ok TooShort) d = refl
+        other (Err why) d = refl
 
     abbrev number : ℕ → ℕ
     number id = number_for n (Standard id) (rows_of plan)
@@ -74,11 +76,11 @@ module _ {plan : List ℕ} (good : GoodPlan plan) {P : ℕ → Type 0} {now : Li
         response_cases plan good a reads n id payload sum (λ x c. now c ≡ replay turn (told_response x (number id) payload) (now a)) other
         (λ r x. rw (number_named plan good n (Standard id) r x) (responded_turns r payload x.exists))
       where
-        other : (x : Responded) → (x ≡ responded.Accepted → ⊥) → now a ≡ replay turn (told_response x (number id) payload) (now a)
-        other responded.Accepted d = absurd (d refl)
-        other responded.TooShort d = refl
-        other responded.WrongSum d = refl
-        other (responded.Refused why) d = refl
+        other : (x : Result Responded Refusal) → (x ≡ Ok responded.Accepted → ⊥) → now a ≡ replay turn (told_response x (number id) payload) (now a)
+        other (Ok responded.Accepted) d = absurd (d refl)
+        other (Ok responded.TooShort) d = refl
+        other (Ok responded.WrongSum) d = refl
+        other (Err why) d = refl
 
     -- long or short, it is an expiry
     pub silence_turns : (id : ℕ) → now (silent_area a n id) ≡ replay turn (told_silence (silent_answer a n id) (number id)) (now a)
@@ -88,5 +90,5 @@ module _ {plan : List ℕ} (good : GoodPlan plan) {P : ℕ → Type 0} {now : Li
         (λ r x.
         let turns = u.expires a reads r x.exists in
         rw (number_named plan good n (Standard id) r x)
-        (both (λ (y : Silence). now (expired_area a r) ≡ replay turn (told_silence y r) (now a)) (eqb (byte_at a (long r)) 1) silence.Long silence.Short
+        (both (λ (y : Result Timeout Refusal). now (expired_area a r) ≡ replay turn (told_silence y r) (now a)) (eqb (byte_at a (long r)) 1) (Ok silence.Long) (Ok silence.Short)
         turns turns))

@@ -5,6 +5,7 @@ use Prim.Native.Nat.{ℕ, ◌%◌, ◌<◌}
 use lib.Dec.{leb, ltb, eqb}
 use lib.ListN.{length}
 use borrow.Author.Tests.{ltb-true}
+use Rattle.std.specs.Prelude.{Result, Ok, Err}
 use Rattle.base.specs.Pick.{pick}
 use Rattle.base.specs.Numbers.{byte_at}
 use Rattle.base.proofs.Apart.{differ}
@@ -16,9 +17,9 @@ use Rattle.area.specs.Layout.{long, marked, node_count, type_on, rx_frame}
 use Rattle.answers.specs.declared.Refusal.{Refusal}
 use Rattle.answers.specs.declared.Refusal.TheVariants.{NotOpen, NoNode, LongPayload, WrongCall}
 use Rattle.answers.specs.declared.Responded.{Responded}
-use Rattle.answers.specs.declared.Responded.TheVariants.{Accepted, TooShort, WrongSum, Refused}
-use Rattle.answers.specs.declared.Silence.{Silence}
-use Rattle.answers.specs.declared.Silence.TheVariants as silence
+use Rattle.answers.specs.declared.Responded.TheVariants.{Accepted, TooShort, WrongSum}
+use Rattle.answers.specs.declared.Timeout.{Timeout}
+use Rattle.answers.specs.declared.Timeout.TheVariants as silence
 use Rattle.reception.specs.declared.lookup.Found.{Found}
 use Rattle.reception.specs.declared.lookup.Found.TheVariants.{At, Nothing}
 use Rattle.reception.specs.Lookup.{looked_up}
@@ -35,8 +36,8 @@ module _ (a : List ℕ) (n id : ℕ) where
 
   -- what holds of every answer but an acceptance with the area as it was, and of an acceptance with what it does, holds of a response
   pub by_responded :
-      (payload : List ℕ) (sum : ℕ) (P : Responded → List ℕ → Type 0) → ((x : Responded) → (x ≡ Accepted → ⊥) → P x a)
-      → (n < node_count a → (r : RxNumber) → looked_up a n (Standard id) ≡ At r → P Accepted (accepted_area a (r.0 % 256) payload))
+      (payload : List ℕ) (sum : ℕ) (P : Result Responded Refusal → List ℕ → Type 0) → ((x : Result Responded Refusal) → (x ≡ Ok Accepted → ⊥) → P x a)
+      → (n < node_count a → (r : RxNumber) → looked_up a n (Standard id) ≡ At r → P (Ok Accepted) (accepted_area a (r.0 % 256) payload))
       → P (responded_answer a n id payload sum) (responded_area a n id payload sum)
   unfolding responded_answer responded_area
   by_responded payload sum P other taken =
@@ -44,22 +45,22 @@ module _ (a : List ℕ) (n id : ℕ) where
       (λ o. pairs P (ltb n (node_count a)) (λ k. go (ltb-true n (node_count a) k) (polled a n id) refl) (λ k. refuse NoNode))
       (λ o. refuse NotOpen)
     where
-      refuse : (why : Refusal) → P (Refused why) a
-      refuse why = other (Refused why) (λ e. differ cc)
+      refuse : (why : Refusal) → P (Err why) a
+      refuse why = other (Err why) (λ e. differ cc)
 
       go : n < node_count a → (f : Found) → polled a n id ≡ f → P (polled_answer a f id payload sum) (polled_area a f id payload sum)
       go k (Nothing place) e = unfold polled_answer polled_area in refuse WrongCall
       go k (At r) e = unfold polled_answer polled_area row_answer row_area in
           pairs P (leb (length payload) 8)
-          (λ s. pairs P (ltb (length payload) (rx_frame a (r.0 % 256)).size) (λ t. other TooShort (λ w. differ cc))
-          (λ t. pairs P (is_sum id payload sum) (λ u. taken k r (polled_found r e)) (λ u. other WrongSum (λ w. differ cc))))
+          (λ s. pairs P (ltb (length payload) (rx_frame a (r.0 % 256)).size) (λ t. other (Ok TooShort) (λ w. differ cc))
+          (λ t. pairs P (is_sum id payload sum) (λ u. taken k r (polled_found r e)) (λ u. other (Ok WrongSum) (λ w. differ cc))))
           (λ s. refuse LongPayload)
 
   -- the same of "no response": what holds of a refusal with the area as it was, and of an expiry
   pub by_silent :
-      (P : Silence → List ℕ → Type 0) → ((why : Refusal) → P (silence.Refused why) a)
+      (P : Result Timeout Refusal → List ℕ → Type 0) → ((why : Refusal) → P (Err why) a)
       → (n < node_count a → (r : RxNumber) → looked_up a n (Standard id) ≡ At r
-      → P (pick (eqb (byte_at a (long (r.0 % 256))) 1) silence.Long silence.Short) (expired_area a (r.0 % 256)))
+      → P (pick (eqb (byte_at a (long (r.0 % 256))) 1) (Ok silence.Long) (Ok silence.Short)) (expired_area a (r.0 % 256)))
       → P (silent_answer a n id) (silent_area a n id)
   unfolding silent_answer silent_area
   by_silent P refused silenced =

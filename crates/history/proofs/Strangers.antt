@@ -6,6 +6,7 @@ use Prim.Native.Nat.{ℕ, ◌+◌, ◌≤◌, ◌<◌}
 use native.Mathlib.Omega.{arith}
 use native.Mathlib.Decide.{ℕ_discrete, dec_lt}
 use lib.ListN.{length}
+use Rattle.std.specs.Prelude.{Ok}
 use Rattle.base.proofs.Apart.{differ}
 use Rattle.base.specs.Numbers.{byte_at}
 use Rattle.base.proofs.Ranges.{at_most-le}
@@ -85,7 +86,7 @@ unfolding answer_in
 strangers_belong a calls plan is n id place payload answered =
     let h = always (λ plan log a. Unit {0}) (λ plan a good reads begun. tt) (λ plan good log c later a reads q. tt) a calls plan is in
     let now = after_in a calls in
-    let w : received_answer now n id payload ≡ NoRow place = cc in
+    let w : received_answer now n id payload ≡ Ok (NoRow place) = cc in
     let (known, lost) = missed now n id payload place w in
     let finds = lookup_finds plan now _ _ _ (facts_good plan h.good) h.reads n id (omega (arith, known, at_most-le 16 (byte_at now node_count_byte))) in
     belongs plan h.good n id place

@@ -8,13 +8,13 @@ use lib.Dec.{leb, eqb}
 use lib.ListN.{length, take}
 use lib.Seq.{take-suc, length-take-le}
 use borrow.Author.Tests.{leb-true}
+use Rattle.std.specs.Prelude.{Result}
 use Rattle.base.specs.Pick.{pick}
 use Rattle.base.specs.Numbers.{byte_at, low_at}
 use Rattle.base.proofs.Picks.{both, cases, into}
 use Rattle.base.proofs.Ranges.{at_most-le}
 use Rattle.plan.specs.Rows.{rows_of}
 use Rattle.facts.specs.Good.{GoodPlan}
-use Rattle.answers.specs.declared.Ticked.{Ticked}
 use Rattle.area.specs.Layout.{tx_count_bytes, rx_reload, rx_timer, long, rx_mask, counter, tx_count, rx_count}
 use Rattle.area.specs.Claims.{RxEvent, expired}
 use Rattle.area.proofs.Frame.{Same-refl, Same-set}
@@ -31,6 +31,7 @@ use Rattle.history.proofs.Steady.{steady_aside, Reads-steady}
 use Rattle.history.proofs.Later.{steady_rx_ticks}
 use Rattle.history.proofs.Replay.{replay, replay-append}
 use Rattle.history.proofs.Turns.{Turns}
+use Rattle.answers.specs.declared.Refusal.{Refusal}
 
 -- ---- what a report tells
 
@@ -135,7 +136,7 @@ module _ {plan : List ℕ} (good : GoodPlan plan) {P : ℕ → Type 0} {now : Li
       ≡ replay turn (told_tick (tick_answer a report) (length (rows_of plan)) (ticked_report (tick_answer a report) a report)) (now a)
   unfolding tick_answer ticked_area ticked_report told_tick replay
   tick_turns a report reads =
-      let Q : Ticked → Type 0 = λ x. now (ticked_area x a) ≡ replay turn (told_tick x (length (rows_of plan)) (ticked_report x a report)) (now a) in
+      let Q : Result (Unit {0}) Refusal → Type 0 = λ x. now (ticked_area x a) ≡ replay turn (told_tick x (length (rows_of plan)) (ticked_report x a report)) (now a) in
       both Q _ _ _
       (cases Q (leb (rx_count a) (length report)) _ _ (λ e. ticked_turns a report reads (leb-true _ _ e)) (λ e. refl))
       refl

@@ -1,8 +1,9 @@
 -- The openings and calls on an area of bytes: what each answers, and what it leaves of the area. A take's payload is read with `taking::payload`,
 -- which changes nothing.
-use Rattle.std.specs.Prelude.{ℕ, List, [], ◌∷◌, length}
+use Rattle.std.specs.Prelude.{ℕ, List, [], ◌∷◌, length, Result}
 use Rattle.plan.specs.Check.{check_plan}
-use Rattle.answers.specs.declared.Opened.{Opened}
+use Rattle.plan.specs.declared.verdict.PlanCounts.{PlanCounts}
+use Rattle.answers.specs.declared.RefusedPlan.{RefusedPlan}
 use Rattle.opening.specs.Opened.{opened_answer, opened_area}
 use Rattle.reception.specs.Reception.{received_answer, received_area}
 use Rattle.polling.specs.Polling.{responded_answer, responded_area, silent_answer, silent_area}
@@ -11,7 +12,7 @@ use Rattle.taking.specs.Taken.{taken_answer, taken_area, taken_payload, fullness
 use Rattle.model.specs.Calls.{Call, reception, response, no_response, tick, take, fullness, Answer, received, responded, silent, ticked, taken, full}
 use Rattle.model.specs.Calls.{Step, opening, call, Reply, opened, answered}
 
-abbrev pub open_answer : List ℕ → List ℕ → Opened
+abbrev pub open_answer : List ℕ → List ℕ → Result PlanCounts RefusedPlan
 open_answer plan a = opened_answer (check_plan plan) (length a)
 
 unfoldable pub answer_in : List ℕ → Call → Answer

@@ -1,6 +1,6 @@
 -- "Within a node 11-bit rows come before 29-bit ones, each in ascending order, and the place of Ticket 4 counts in that order." (document 02, Ticket 6), as a
 -- caller sees it: by the numbers of the rows' IDs, and by no order of IDs.
-use Rattle.std.specs.Prelude.{◌≡◌, ◌⊎◌, List, ℕ, ◌<◌, length}
+use Rattle.std.specs.Prelude.{◌≡◌, ◌⊎◌, List, ℕ, ◌<◌, length, Ok}
 use Rattle.std.proofs.Math.Option.{some}
 use Rattle.records.specs.declared.record.Id.TheVariants.{Standard, Extended}
 use Rattle.plan.specs.Rows.{rows_of}
@@ -39,6 +39,6 @@ BeforeExtended plan n number r = ((m : ℕ) × StandardRow plan n m r) ⊎ ((m :
 -- of every reception that answers 1, after any openings and calls on any area
 pub record PlacesByFormat : Type 0 where
   pub standard : (a : List ℕ) (calls : List Step) (plan : List ℕ) → (past_of calls a).plan ≡ some plan → (n number place : ℕ) (payload : List ℕ)
-      → answer_in (after_in a calls) (reception n (Standard number) payload) ≡ received (NoRow place) → Many (BeforeStandard plan n number) place
+      → answer_in (after_in a calls) (reception n (Standard number) payload) ≡ received (Ok (NoRow place)) → Many (BeforeStandard plan n number) place
   pub extended : (a : List ℕ) (calls : List Step) (plan : List ℕ) → (past_of calls a).plan ≡ some plan → (n number place : ℕ) (payload : List ℕ)
-      → answer_in (after_in a calls) (reception n (Extended number) payload) ≡ received (NoRow place) → Many (BeforeExtended plan n number) place
+      → answer_in (after_in a calls) (reception n (Extended number) payload) ≡ received (Ok (NoRow place)) → Many (BeforeExtended plan n number) place

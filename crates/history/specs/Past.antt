@@ -1,7 +1,7 @@
 -- What a caller knows of the past from the answers alone: the plan last opened with success, and what has happened to its Rx frames since. A
 -- reception or a response that answers 0 was accepted for the plan's Rx frame of that node and ID; a report's byte that is not 0 is an expiry of its Rx
 -- frame, and so is on LIN an unrefused "no response" (document 02, Ticket 2).
-use Rattle.std.specs.Prelude.{ℕ, suc, List, [], ◌∷◌, ◌++◌, eqb, length, take}
+use Rattle.std.specs.Prelude.{ℕ, suc, List, [], ◌∷◌, ◌++◌, eqb, length, take, Result, Ok, Err}
 use Rattle.std.proofs.Math.Option.{Option, none, some}
 use Rattle.base.specs.Pick.{pick}
 use Rattle.records.specs.declared.record.Id.{Id}
@@ -9,16 +9,15 @@ use Rattle.records.specs.declared.record.Id.TheVariants.{Standard}
 use Rattle.records.specs.Ids.{same_id}
 use Rattle.plan.specs.Rows.{Row, rows_of}
 use Rattle.area.specs.Claims.{RxEvent, accepted, expired}
-use Rattle.answers.specs.declared.Opened.{Opened}
-use Rattle.answers.specs.declared.Opened.TheVariants as opened
+use Rattle.plan.specs.declared.verdict.PlanCounts.{PlanCounts}
+use Rattle.answers.specs.declared.Refusal.{Refusal}
+use Rattle.answers.specs.declared.RefusedPlan.{RefusedPlan}
 use Rattle.answers.specs.declared.Received.{Received}
-use Rattle.answers.specs.declared.Received.TheVariants.{Accepted, NoRow, TooShort, Refused}
+use Rattle.answers.specs.declared.Received.TheVariants.{Accepted, NoRow, TooShort}
 use Rattle.answers.specs.declared.Responded.{Responded}
 use Rattle.answers.specs.declared.Responded.TheVariants as OfResponse
-use Rattle.answers.specs.declared.Silence.{Silence}
-use Rattle.answers.specs.declared.Silence.TheVariants as OfSilence
-use Rattle.answers.specs.declared.Ticked.{Ticked}
-use Rattle.answers.specs.declared.Ticked.TheVariants as ticked
+use Rattle.answers.specs.declared.Timeout.{Timeout}
+use Rattle.answers.specs.declared.Timeout.TheVariants as OfSilence
 use Rattle.reception.specs.Reception.{received_answer}
 use Rattle.polling.specs.Polling.{responded_answer, silent_answer}
 use Rattle.ticking.specs.Tick.{tick_answer, ticked_report}
@@ -40,38 +39,38 @@ unfoldable pub number_for : ℕ → Id → List Row → ℕ
 number_for n id [] = 0
 number_for n id (r ∷ rs) = pick (eqb r.frame.node n) (pick (same_id r.frame.id id) 0 (suc (number_for n id rs))) (suc (number_for n id rs))
 
-unfoldable pub told_reception : Received → ℕ → List ℕ → List RxEvent
-told_reception Accepted r payload = accepted r payload ∷ []
-told_reception (NoRow place) r payload = []
-told_reception TooShort r payload = []
-told_reception (Refused why) r payload = []
+unfoldable pub told_reception : Result Received Refusal → ℕ → List ℕ → List RxEvent
+told_reception (Ok Accepted) r payload = accepted r payload ∷ []
+told_reception (Ok (NoRow place)) r payload = []
+told_reception (Ok TooShort) r payload = []
+told_reception (Err why) r payload = []
 
-unfoldable pub told_response : Responded → ℕ → List ℕ → List RxEvent
-told_response OfResponse.Accepted r payload = accepted r payload ∷ []
-told_response OfResponse.TooShort r payload = []
-told_response OfResponse.WrongSum r payload = []
-told_response (OfResponse.Refused why) r payload = []
+unfoldable pub told_response : Result Responded Refusal → ℕ → List ℕ → List RxEvent
+told_response (Ok OfResponse.Accepted) r payload = accepted r payload ∷ []
+told_response (Ok OfResponse.TooShort) r payload = []
+told_response (Ok OfResponse.WrongSum) r payload = []
+told_response (Err why) r payload = []
 
 -- it "is demand 3's expiry on LIN"
-unfoldable pub told_silence : Silence → ℕ → List RxEvent
-told_silence OfSilence.Short r = expired r ∷ []
-told_silence OfSilence.Long r = expired r ∷ []
-told_silence (OfSilence.Refused why) r = []
+unfoldable pub told_silence : Result Timeout Refusal → ℕ → List RxEvent
+told_silence (Ok OfSilence.Short) r = expired r ∷ []
+told_silence (Ok OfSilence.Long) r = expired r ∷ []
+told_silence (Err why) r = []
 
 -- the report's bytes, from that of Rx frame r on; of a request the byte is 0
 unfoldable pub told_report : ℕ → List ℕ → List RxEvent
 told_report r [] = []
 told_report r (x ∷ xs) = pick (eqb x 0) (told_report (suc r) xs) (expired r ∷ told_report (suc r) xs)
 
-unfoldable pub told_tick : Ticked → ℕ → List ℕ → List RxEvent
-told_tick ticked.Done rows report = told_report 0 (take rows report)
-told_tick (ticked.Refused why) rows report = []
+unfoldable pub told_tick : Result (Unit {0}) Refusal → ℕ → List ℕ → List RxEvent
+told_tick (Ok done) rows report = told_report 0 (take rows report)
+told_tick (Err why) rows report = []
 
 -- ---- the past after a call on an area
 
-unfoldable pub opened_past : Opened → List ℕ → Past → Past
-opened_past (opened.Open nodes tx rx) plan past = record { plan = some plan; log = [] }
-opened_past (opened.Refused why number) plan past = past
+unfoldable pub opened_past : Result PlanCounts RefusedPlan → List ℕ → Past → Past
+opened_past (Ok counts) plan past = record { plan = some plan; log = [] }
+opened_past (Err refused) plan past = past
 
 -- nothing is told before an opening
 unfoldable pub told : Option (List ℕ) → Step → List ℕ → List RxEvent

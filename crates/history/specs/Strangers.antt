@@ -1,6 +1,6 @@
 -- "When somebody plugs in an unlisted instrument, we want its place in the plan sheet. A lookup that finds nothing should say how many of that node's
 -- rows have a smaller ID. Answer 1 carries this number" (document 02, Ticket 4), as a caller sees it, in the plan's terms.
-use Rattle.std.specs.Prelude.{◌≡◌, ◌⊎◌, ◌↔◌, List, [], ◌∷◌, ℕ, zero, suc, ◌≤◌, ◌<◌, length, get_or}
+use Rattle.std.specs.Prelude.{◌≡◌, ◌⊎◌, ◌↔◌, List, [], ◌∷◌, ℕ, zero, suc, ◌≤◌, ◌<◌, length, get_or, Ok}
 use Rattle.std.proofs.Math.Option.{some}
 use Rattle.records.specs.declared.record.Id.{Id}
 use Rattle.records.specs.Ids.{Before}
@@ -46,4 +46,4 @@ pub record Belongs (plan : List ℕ) (n : ℕ) (id : Id) (place : ℕ) : Type 0 
 abbrev pub StrangersBelong : Type 0
 StrangersBelong =
     (a : List ℕ) (calls : List Step) (plan : List ℕ) → (past_of calls a).plan ≡ some plan → (n : ℕ) (id : Id) (place : ℕ) (payload : List ℕ)
-    → answer_in (after_in a calls) (reception n id payload) ≡ received (NoRow place) → Belongs plan n id place
+    → answer_in (after_in a calls) (reception n id payload) ≡ received (Ok (NoRow place)) → Belongs plan n id place

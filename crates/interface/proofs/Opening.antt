@@ -4,6 +4,7 @@ use mathlib.Core.List.{List}
 use Prim.Native.Nat.{ℕ, ◌%◌, ◌<◌}
 use native.Mathlib.Omega.{arith}
 use borrow.Author.Tests.{ne_eqb}
+use Rattle.std.specs.Prelude.{Result, Ok, Err}
 use Rattle.base.specs.Pick.{pick}
 use Rattle.base.proofs.Picks.{both}
 use Rattle.base.proofs.Ranges.{at_most_is}
@@ -13,8 +14,8 @@ use Rattle.plan.specs.Check.{check_plan}
 use Rattle.facts.proofs.Bounds.{good_bounds}
 use Rattle.answers.specs.declared.Refusal.{Refusal}
 use Rattle.answers.specs.declared.Refusal.TheVariants.{Plan, ShortArea}
-use Rattle.answers.specs.declared.Opened.{Opened}
-use Rattle.answers.specs.declared.Opened.TheVariants.{Open, Refused}
+use Rattle.plan.specs.declared.verdict.PlanCounts.{PlanCounts}
+use Rattle.answers.specs.declared.RefusedPlan.{RefusedPlan}
 use Rattle.answers.specs.Answers.{refusal_number}
 use Rattle.opening.specs.Opened.{opened_answer}
 use Rattle.interface.specs.Structs.{opened_struct}
@@ -22,10 +23,10 @@ use Rattle.interface.specs.Back.{opened_of}
 use Rattle.interface.proofs.Numbers.{numbered}
 use Rattle.interface.proofs.Records.{Low, plan_low}
 
-abbrev Back : Opened → Type 0
+abbrev Back : Result PlanCounts RefusedPlan → Type 0
 Back o = opened_of (opened_struct o) ≡ o
 
-open_back : (n t r : ℕ) → n < 65536 → t < 65536 → r < 65536 → Back (Open n t r)
+open_back : (n t r : ℕ) → n < 65536 → t < 65536 → r < 65536 → Back (Ok (record { nodes = n; tx = t; rx = r }))
 unfolding opened_of opened_struct pick
 open_back n t r hn ht hr =
     let en : n % 65536 ≡ n = omega arith in
@@ -33,7 +34,7 @@ open_back n t r hn ht hr =
     let er : r % 65536 ≡ r = omega arith in
     rw (en, et, er)
 
-refused_back : (why : Refusal) (k : ℕ) → k < 65536 → Back (Refused why k)
+refused_back : (why : Refusal) (k : ℕ) → k < 65536 → Back (Err (record { why = why; record_number = k }))
 unfolding opened_of opened_struct pick
 refused_back why k h =
     let n = numbered why in

@@ -4,6 +4,7 @@ use mathlib.Core.List.{List}
 use Prim.Native.Nat.{ℕ, ◌%◌, ◌≤◌, ◌<◌}
 use native.Mathlib.Omega.{arith}
 use borrow.Author.Tests.{ne_eqb}
+use Rattle.std.specs.Prelude.{Result, Ok, Err}
 use Rattle.base.specs.Pick.{pick}
 use Rattle.base.specs.Numbers.{low_at}
 use Rattle.base.proofs.Picks.{both}
@@ -16,12 +17,8 @@ use Rattle.answers.specs.declared.Received.{Received}
 use Rattle.answers.specs.declared.Received.TheVariants as received
 use Rattle.answers.specs.declared.Responded.{Responded}
 use Rattle.answers.specs.declared.Responded.TheVariants as responded
-use Rattle.answers.specs.declared.Silence.{Silence}
-use Rattle.answers.specs.declared.Silence.TheVariants as silence
-use Rattle.answers.specs.declared.Ticked.{Ticked}
-use Rattle.answers.specs.declared.Ticked.TheVariants as ticked
-use Rattle.answers.specs.declared.Fullness.{Fullness}
-use Rattle.answers.specs.declared.Fullness.TheVariants as fullness
+use Rattle.answers.specs.declared.Timeout.{Timeout}
+use Rattle.answers.specs.declared.Timeout.TheVariants as silence
 use Rattle.answers.specs.Answers.{refusal_number, received_number, responded_number, silence_number}
 use Rattle.reception.specs.declared.lookup.Found.{Found}
 use Rattle.reception.specs.declared.lookup.Found.TheVariants.{At, Nothing}
@@ -37,20 +34,20 @@ use Rattle.interface.proofs.Numbers.{numbered}
 
 -- ---- reception: its refusals are above its answers 0, 1 and 2
 
-abbrev ReceivedBack : Received → Type 0
+abbrev ReceivedBack : Result Received Refusal → Type 0
 ReceivedBack x = received_of (received_struct x) ≡ x
 
-received_refused : (why : Refusal) → 3 ≤ refusal_number why → ReceivedBack (received.Refused why)
+received_refused : (why : Refusal) → 3 ≤ refusal_number why → ReceivedBack (Err why)
 unfolding received_of received_struct pick
 received_refused why l =
     let k = refusal_number why in
     rw (ne_eqb k 0 (omega arith), ne_eqb k 1 (omega arith), ne_eqb k 2 (omega arith), (numbered why).back)
 
-answers_back : ReceivedBack received.Accepted × ReceivedBack received.TooShort
+answers_back : ReceivedBack (Ok received.Accepted) × ReceivedBack (Ok received.TooShort)
 unfolding received_of received_struct received_number pick
 answers_back = (refl, refl)
 
-place_back : (place : ℕ) → place < 65536 → ReceivedBack (received.NoRow place)
+place_back : (place : ℕ) → place < 65536 → ReceivedBack (Ok (received.NoRow place))
 unfolding received_of received_struct received_number pick
 place_back place l = let e : place % 65536 ≡ place = omega arith in rw e
 
@@ -74,16 +71,16 @@ received_back a n id payload =
 
 -- ---- a response: its refusals are above its answers 0, 2 and 3
 
-abbrev RespondedBack : Responded → Type 0
+abbrev RespondedBack : Result Responded Refusal → Type 0
 RespondedBack x = responded_of (responded_number x) ≡ x
 
-responded_refused : (why : Refusal) → 4 ≤ refusal_number why → RespondedBack (responded.Refused why)
+responded_refused : (why : Refusal) → 4 ≤ refusal_number why → RespondedBack (Err why)
 unfolding responded_of responded_number pick
 responded_refused why l =
     let k = refusal_number why in
     rw (ne_eqb k 0 (omega arith), ne_eqb k 2 (omega arith), ne_eqb k 3 (omega arith), (numbered why).back)
 
-responses_back : RespondedBack responded.Accepted × RespondedBack responded.TooShort × RespondedBack responded.WrongSum
+responses_back : RespondedBack (Ok responded.Accepted) × RespondedBack (Ok responded.TooShort) × RespondedBack (Ok responded.WrongSum)
 unfolding responded_of responded_number pick
 responses_back = (refl, refl, refl)
 
@@ -108,16 +105,16 @@ responded_back a n id payload sum =
 
 -- ---- "no response": its refusals are above its answers 1 and 2
 
-abbrev SilenceBack : Silence → Type 0
+abbrev SilenceBack : Result Timeout Refusal → Type 0
 SilenceBack x = silence_of (silence_number x) ≡ x
 
-silence_refused : (why : Refusal) → 3 ≤ refusal_number why → SilenceBack (silence.Refused why)
+silence_refused : (why : Refusal) → 3 ≤ refusal_number why → SilenceBack (Err why)
 unfolding silence_of silence_number pick
 silence_refused why l =
     let k = refusal_number why in
     rw (ne_eqb k 1 (omega arith), ne_eqb k 2 (omega arith), (numbered why).back)
 
-timeouts_back : SilenceBack silence.Short × SilenceBack silence.Long
+timeouts_back : SilenceBack (Ok silence.Short) × SilenceBack (Ok silence.Long)
 unfolding silence_of silence_number pick
 timeouts_back = (refl, refl)
 
@@ -135,23 +132,23 @@ silence_back a n id =
 
 -- ---- tick
 
-pub ticked_back : (x : Ticked) → ticked_of (ticked_number x) ≡ x
+pub ticked_back : (x : Result (Unit {0}) Refusal) → ticked_of (ticked_number x) ≡ x
 unfolding ticked_of ticked_number pick
-ticked_back ticked.Done = refl
-ticked_back (ticked.Refused why) = let n = numbered why in rw (ne_eqb (refusal_number why) 0 (omega arith), n.back)
+ticked_back (Ok done) = refl
+ticked_back (Err why) = let n = numbered why in rw (ne_eqb (refusal_number why) 0 (omega arith), n.back)
 
 -- ---- fullness
 
-abbrev FullnessBack : Fullness → Type 0
+abbrev FullnessBack : Result ℕ Refusal → Type 0
 FullnessBack x = fullness_of (fullness_struct x) ≡ x
 
-fullness_refused : (why : Refusal) → FullnessBack (fullness.Refused why)
+fullness_refused : (why : Refusal) → FullnessBack (Err why)
 unfolding fullness_of fullness_struct pick
 fullness_refused why =
     let n = numbered why in
     rw (ne_eqb (refusal_number why) 0 (omega arith), n.back)
 
-owned_back : (n : ℕ) → n < 65 → FullnessBack (fullness.Owned n)
+owned_back : (n : ℕ) → n < 65 → FullnessBack (Ok n)
 unfolding fullness_of fullness_struct pick
 owned_back n h = let e : n % 65536 ≡ n = omega arith in rw e
 

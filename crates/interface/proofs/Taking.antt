@@ -4,6 +4,7 @@ use mathlib.Core.List.{List}
 use Prim.Native.Nat.{ℕ, ◌+◌, ◌%◌, ◌<◌}
 use native.Mathlib.Omega.{arith}
 use borrow.Author.Tests.{ne_eqb}
+use Rattle.std.specs.Prelude.{Option, Some, None, Result, Ok, Err}
 use Rattle.base.specs.Pick.{pick}
 use Rattle.base.proofs.Picks.{both}
 use Rattle.bits.proofs.PayloadLaws.{Bytes}
@@ -24,7 +25,7 @@ use Rattle.answers.specs.declared.Framing.TheVariants.{Can, Lin}
 use Rattle.answers.specs.declared.TakenFrame.{TakenFrame}
 use Rattle.answers.specs.declared.TakenRequest.{TakenRequest}
 use Rattle.answers.specs.declared.Taken.{Taken}
-use Rattle.answers.specs.declared.Taken.TheVariants.{Nothing, Frame, Request, Refused}
+use Rattle.answers.specs.declared.Taken.TheVariants.{Frame, Request}
 use Rattle.answers.specs.Answers.{refusal_number}
 use Rattle.taking.specs.Taken.{framing_of, entry_answer, oldest_answer, taken_answer}
 use Rattle.taking.proofs.Entries.{frame_small, request_small}
@@ -34,14 +35,14 @@ use Rattle.interface.specs.Back.{taken_of}
 use Rattle.interface.proofs.Numbers.{numbered}
 use Rattle.interface.proofs.Words.{Fits, word_back, id_fits}
 
-abbrev Back : Taken → Type 0
+abbrev Back : Result (Option Taken) Refusal → Type 0
 Back x = taken_of (taken_struct x) ≡ x
 
-nothing_back : Back Nothing
+nothing_back : Back (Ok None)
 unfolding taken_of taken_struct nothing_taken pick
 nothing_back = refl
 
-refused_back : (why : Refusal) → Back (Refused why)
+refused_back : (why : Refusal) → Back (Err why)
 unfolding taken_of taken_struct nothing_taken pick
 refused_back why =
     let n = numbered why in
@@ -52,7 +53,7 @@ unfoldable Told : Framing → Type 0
 Told Can = Unit {0}
 Told (Lin protected checksum) = 0 < protected
 
-frame_back : (x : TakenFrame) → x.tx.0 < 256 → Fits x.id → x.size < 16 → x.waiting < 65536 → Told x.framing → Back (Frame x)
+frame_back : (x : TakenFrame) → x.tx.0 < 256 → Fits x.id → x.size < 16 → x.waiting < 65536 → Told x.framing → Back (Ok (Some (Frame x)))
 unfolding taken_of taken_struct back.framing_of protected_in checksum_in pick Told
 frame_back x ht hi hs hw told = go x.framing refl told
   where
@@ -68,11 +69,11 @@ frame_back x ht hi hs hw told = go x.framing refl told
     ew : x.waiting % 65536 ≡ x.waiting
     ew = omega arith
 
-    go : (f : Framing) → x.framing ≡ f → Told f → Back (Frame x)
+    go : (f : Framing) → x.framing ≡ f → Told f → Back (Ok (Some (Frame x)))
     go Can e t = rw (et, es, ei, ew, e)
     go (Lin protected checksum) e t = rw (et, es, ei, ew, e, ne_eqb protected 0 (omega arith))
 
-request_back : (x : TakenRequest) → x.rx.0 < 256 → Fits x.id → x.size < 256 → x.waiting < 65536 → Back (Request x)
+request_back : (x : TakenRequest) → x.rx.0 < 256 → Fits x.id → x.size < 256 → x.waiting < 65536 → Back (Ok (Some (Request x)))
 unfolding taken_of taken_struct pick
 request_back x hr hi hs hw =
     let er : x.rx.0 % 65536 ≡ x.rx.0 = omega arith in
@@ -102,10 +103,10 @@ waiting_small : (a : List ℕ) (n : ℕ) → Bytes a → (ends_of a n).waiting <
 unfolding ends_of
 waiting_small a n b = omega (arith, b (queue n + 6), b (queue n + 6 + 1))
 
-entry_back : (a : List ℕ) (n waiting : ℕ) → Bytes a → waiting < 65536 → Back (entry_answer a n (entry_of (oldest a n)) waiting)
+entry_back : (a : List ℕ) (n waiting : ℕ) → Bytes a → waiting < 65536 → Back (Ok (Some (entry_answer a n (entry_of (oldest a n)) waiting)))
 entry_back a n waiting b l = go (entry_of (oldest a n)) refl
   where
-    go : (x : Entry) → entry_of (oldest a n) ≡ x → Back (entry_answer a n x waiting)
+    go : (x : Entry) → entry_of (oldest a n) ≡ x → Back (Ok (Some (entry_answer a n x waiting)))
     go (entry.Frame t) e = unfold entry_answer in
         frame_back _ (frame_small (oldest a n) t e) (tx_id_fits a t.0 b) (omega arith) l (framing_told a n _ _)
     go (entry.Request r) e = unfold entry_answer in

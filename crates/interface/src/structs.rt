@@ -1,14 +1,18 @@
 // What C is answered: a struct for each call, and how it is made of the call's answer. specs/Structs.antt says what stands in each field.
-ghost use Rattle.std.specs.Prelude.{◌≡◌, ◌%◌};
+ghost use Rattle.std.specs.Prelude.{◌≡◌, ◌%◌, Some, Ok};
+ghost use Rattle.answers.specs.declared.Taken.TheVariants.{Frame, Request};
 ghost use Rattle.answers.specs.Answers.{refusal_number, responded_number, silence_number};
 ghost use Rattle.interface.specs.Structs.{opened_struct, received_struct, ticked_number, payload_struct, fullness_struct};
 ghost use Rattle.interface.specs.Structs.{id_in, word_of, protected_in, checksum_in, nothing_taken, taken_struct};
 ghost use Rattle.interface.specs.Back.{taken_of};
 
-use answers::{Framing, Fullness, Opened, Received, Refusal, Responded, Silence, Taken, Ticked};
+use answers::{
+    Framing, Received, Refusal, RefusedPlan, Responded, Taken, TakenFrame, TakenRequest, Timeout,
+};
 use area::layout;
 use area::layout::{AREA_LENGTH, in_width};
 use base::at_most;
+use plan::verdict::PlanCounts;
 use records::record::{FORMAT_BIT, Id, TxNumber};
 
 #[repr(C)]
@@ -71,20 +75,21 @@ fn low(n: usize) -> u16
 }
 
 // The record's number comes into range by a comparison: with a remainder the compiler counts the records in 16 bits, which takes longer.
-pub fn opened_struct(answer: Opened) -> GatewayOpened
+#[tactic(auto, unfolding(crate::specs::Structs::opened_struct))]
+pub fn opened_struct(answer: Result<PlanCounts, RefusedPlan>) -> GatewayOpened
     ensures { result ≡ opened_struct answer }
 {
     match answer {
-        Opened::Open { nodes, tx, rx } => GatewayOpened {
+        Ok(counts) => GatewayOpened {
             number: 0,
             record: 0,
-            nodes: low(nodes),
-            tx: low(tx),
-            rx: low(rx),
+            nodes: low(counts.nodes),
+            tx: low(counts.tx),
+            rx: low(counts.rx),
         },
-        Opened::Refused { why, record } => GatewayOpened {
-            number: refusal_number(why),
-            record: at_most(65535, record) as u16,
+        Err(refused) => GatewayOpened {
+            number: refusal_number(refused.why),
+            record: at_most(65535, refused.record_number) as u16,
             nodes: 0,
             tx: 0,
             rx: 0,
@@ -92,60 +97,65 @@ pub fn opened_struct(answer: Opened) -> GatewayOpened
     }
 }
 
-pub fn received_struct(answer: Received) -> GatewayReceived
+#[tactic(auto, unfolding(crate::specs::Structs::received_struct, answers::specs::Answers::received_number))]
+pub fn received_struct(answer: Result<Received, Refusal>) -> GatewayReceived
     ensures { result ≡ received_struct answer }
 {
     match answer {
-        Received::Accepted => GatewayReceived {
+        Ok(Received::Accepted) => GatewayReceived {
             number: 0,
             place: 0,
         },
-        Received::NoRow { place } => GatewayReceived {
+        Ok(Received::NoRow { place }) => GatewayReceived {
             number: 1,
             place: low(place),
         },
-        Received::TooShort => GatewayReceived {
+        Ok(Received::TooShort) => GatewayReceived {
             number: 2,
             place: 0,
         },
-        Received::Refused(why) => GatewayReceived {
+        Err(why) => GatewayReceived {
             number: refusal_number(why),
             place: 0,
         },
     }
 }
 
-pub fn ticked_number(answer: Ticked) -> u16
+#[tactic(auto, unfolding(crate::specs::Structs::ticked_number))]
+pub fn ticked_number(answer: Result<(), Refusal>) -> u16
     ensures { result ≡ ticked_number answer }
 {
     match answer {
-        Ticked::Done => 0,
-        Ticked::Refused(why) => refusal_number(why),
+        Ok(()) => 0,
+        Err(why) => refusal_number(why),
     }
 }
 
-pub fn responded_number(answer: Responded) -> u16
+#[tactic(auto, unfolding(answers::specs::Answers::responded_number))]
+pub fn responded_number(answer: Result<Responded, Refusal>) -> u16
     ensures { result ≡ responded_number answer }
 {
     match answer {
-        Responded::Accepted => 0,
-        Responded::TooShort => 2,
-        Responded::WrongSum => 3,
-        Responded::Refused(why) => refusal_number(why),
+        Ok(Responded::Accepted) => 0,
+        Ok(Responded::TooShort) => 2,
+        Ok(Responded::WrongSum) => 3,
+        Err(why) => refusal_number(why),
     }
 }
 
-pub fn silence_number(answer: Silence) -> u16
+#[tactic(auto, unfolding(answers::specs::Answers::silence_number))]
+pub fn silence_number(answer: Result<Timeout, Refusal>) -> u16
     ensures { result ≡ silence_number answer }
 {
     match answer {
-        Silence::Short => 1,
-        Silence::Long => 2,
-        Silence::Refused(why) => refusal_number(why),
+        Ok(Timeout::Short) => 1,
+        Ok(Timeout::Long) => 2,
+        Err(why) => refusal_number(why),
     }
 }
 
 // A take of neither a frame nor a request: nothing waits, or the take was refused.
+#[tactic(auto, unfolding(crate::specs::Structs::nothing_taken))]
 fn nothing_taken(number: u16) -> GatewayTaken
     ensures { result ≡ nothing_taken number }
 {
@@ -162,6 +172,7 @@ fn nothing_taken(number: u16) -> GatewayTaken
     }
 }
 
+#[tactic(auto, unfolding(crate::specs::Structs::protected_in))]
 fn protected_in(framing: Framing) -> u8
     ensures { result ≡ protected_in framing }
 {
@@ -174,6 +185,7 @@ fn protected_in(framing: Framing) -> u8
     }
 }
 
+#[tactic(auto, unfolding(crate::specs::Structs::checksum_in))]
 fn checksum_in(framing: Framing) -> u8
     ensures { result ≡ checksum_in framing }
 {
@@ -199,6 +211,7 @@ pub fn id_in(word: u32) -> Id
 }
 
 // An ID as such an identifier.
+#[tactic(auto, unfolding(crate::specs::Structs::word_of))]
 fn word_of(id: Id) -> u32
     ensures { result ≡ word_of id }
 {
@@ -208,53 +221,59 @@ fn word_of(id: Id) -> u32
     }
 }
 
-pub fn taken_struct(answer: Taken) -> GatewayTaken
+#[tactic(auto, unfolding(crate::specs::Structs::taken_struct))]
+pub fn taken_struct(answer: Result<Option<Taken>, Refusal>) -> GatewayTaken
     ensures { result ≡ taken_struct answer }
 {
     match answer {
-        Taken::Nothing => nothing_taken(0),
-        Taken::Frame(frame) => {
-            let framing = frame.framing;
-            let id = frame.id;
-            GatewayTaken {
-                number: 0,
-                kind: 1,
-                size: (frame.size % 256) as u8,
-                tx: low(frame.tx.0),
-                rx: 0,
-                id: word_of(id),
-                waiting: low(frame.waiting),
-                protected_id: protected_in(framing),
-                checksum: checksum_in(framing),
-            }
-        }
-        Taken::Request(request) => {
-            let id = request.id;
-            GatewayTaken {
-                number: 0,
-                kind: 2,
-                size: (request.size % 256) as u8,
-                tx: 0,
-                rx: low(request.rx.0),
-                id: word_of(id),
-                waiting: low(request.waiting),
-                protected_id: request.protected,
-                checksum: 0,
-            }
-        }
-        Taken::Refused(why) => nothing_taken(refusal_number(why)),
+        Ok(Some(Taken::Frame(frame))) => frame_struct(frame),
+        Ok(Some(Taken::Request(request))) => request_struct(request),
+        Ok(None) => nothing_taken(0),
+        Err(why) => nothing_taken(refusal_number(why)),
     }
 }
 
-pub fn fullness_struct(answer: Fullness) -> GatewayFullness
+#[tactic(auto, unfolding(crate::specs::Structs::taken_struct, crate::specs::Structs::nothing_taken))]
+fn frame_struct(frame: TakenFrame) -> GatewayTaken
+    ensures { result ≡ taken_struct (Ok (Some (Frame frame))) }
+{
+    GatewayTaken {
+        kind: 1,
+        size: (frame.size % 256) as u8,
+        tx: low(frame.tx.0),
+        id: word_of(frame.id),
+        waiting: low(frame.waiting),
+        protected_id: protected_in(frame.framing),
+        checksum: checksum_in(frame.framing),
+        ..nothing_taken(0)
+    }
+}
+
+#[tactic(auto, unfolding(crate::specs::Structs::taken_struct, crate::specs::Structs::nothing_taken))]
+fn request_struct(request: TakenRequest) -> GatewayTaken
+    ensures { result ≡ taken_struct (Ok (Some (Request request))) }
+{
+    GatewayTaken {
+        kind: 2,
+        size: (request.size % 256) as u8,
+        rx: low(request.rx.0),
+        id: word_of(request.id),
+        waiting: low(request.waiting),
+        protected_id: request.protected,
+        ..nothing_taken(0)
+    }
+}
+
+#[tactic(auto, unfolding(crate::specs::Structs::fullness_struct))]
+pub fn fullness_struct(answer: Result<usize, Refusal>) -> GatewayFullness
     ensures { result ≡ fullness_struct answer }
 {
     match answer {
-        Fullness::Owned(n) => GatewayFullness {
+        Ok(n) => GatewayFullness {
             number: 0,
             bits: low(n),
         },
-        Fullness::Refused(why) => GatewayFullness {
+        Err(why) => GatewayFullness {
             number: refusal_number(why),
             bits: 0,
         },

@@ -6,12 +6,13 @@ use native.Mathlib.Decide.{dec_lt}
 use native.Mathlib.Omega.{arith}
 use lib.ListN.{length, length-append}
 use lib.Seq.{take-append_seam}
+use Rattle.std.specs.Prelude.{Result, Ok, Err}
 use Rattle.base.specs.Pick.{pick}
 use Rattle.base.specs.Numbers.{two_at}
 use Rattle.facts.specs.Good.{Each}
 use Rattle.answers.specs.declared.Refusal.{Refusal}
-use Rattle.answers.specs.declared.Opened.{Opened}
-use Rattle.answers.specs.declared.Opened.TheVariants.{Open, Refused}
+use Rattle.plan.specs.declared.verdict.PlanCounts.{PlanCounts}
+use Rattle.answers.specs.declared.RefusedPlan.{RefusedPlan}
 use Rattle.events.specs.declared.Front.TheVariants as front
 use Rattle.events.specs.Events.{front_of, plan_of}
 use Rattle.events.proofs.EventLaws.{front_long, front_cut, front_short, front_plan}
@@ -40,17 +41,17 @@ plan_read plan events =
     let behind : length (ahead plan) - 2 ≡ length plan = omega arith in
     rw behind (take-append_seam plan events)
 
-text_read : (plan events : List ℕ) (o : Opened) → bench.opens closed plan ≡ o → length (input_of plan events) ≤ 65536
+text_read : (plan events : List ℕ) (o : Result PlanCounts RefusedPlan) → bench.opens closed plan ≡ o → length (input_of plan events) ≤ 65536
     → model_output (input_of plan events) ≡ text_of plan (asked_of o (input_of plan events) (length (ahead plan)))
 unfolding model_output front_text
 text_read plan events o e h = rw (front_read plan events h, plan_read plan events, e) refl
 
-events_read : (plan tail : List ℕ) (es : List Entry) (nodes tx rx : ℕ) (last : Asked) → bench.opens closed plan ≡ Open nodes tx rx → Each Whole es
+events_read : (plan tail : List ℕ) (es : List Entry) (nodes tx rx : ℕ) (last : Asked) → bench.opens closed plan ≡ Ok (record { nodes = nodes; tx = tx; rx = rx }) → Each Whole es
     → Ends tail rx last → length (input_of plan (all_bytes es ++ tail)) ≤ 65536
     → model_output (input_of plan (all_bytes es ++ tail)) ≡ text_of plan (then (steps_of rx es) last)
 unfolding asked_of asked_from
 events_read plan tail es nodes tx rx last e w ends h =
-    text_read plan (all_bytes es ++ tail) (Open nodes tx rx) e h
+    text_read plan (all_bytes es ++ tail) (Ok (record { nodes = nodes; tx = tx; rx = rx })) e h
     ∙ ap (λ (a : Asked). text_of plan a)
     (read es _ (ahead plan) tail rx last w ends (omega (arith, length-append (ahead plan) (all_bytes es ++ tail))))
 
@@ -64,7 +65,7 @@ text_then plan steps last e =
 
 -- ---- the rules
 
-whole : (plan : List ℕ) (es : List Entry) (nodes tx rx : ℕ) → bench.opens closed plan ≡ Open nodes tx rx → Each Whole es
+whole : (plan : List ℕ) (es : List Entry) (nodes tx rx : ℕ) → bench.opens closed plan ≡ Ok (record { nodes = nodes; tx = tx; rx = rx }) → Each Whole es
     → length (input_of plan (all_bytes es)) ≤ 65536 → model_output (input_of plan (all_bytes es)) ≡ lines_of (told (opening plan ∷ steps_of rx es))
 unfolding pick
 whole plan es nodes tx rx e w h =
@@ -72,18 +73,18 @@ whole plan es nodes tx rx e w h =
     ap (λ (l : List ℕ). model_output (input_of plan l)) (sym same) ∙ events_read plan [] es nodes tx rx nothing e w (Ends-none rx) (rw same h)
     ∙ text_then plan (steps_of rx es) nothing refl ∙ append-nil (lines_of (told (opening plan ∷ steps_of rx es)))
 
-broken : (plan : List ℕ) (es : List Entry) (tail : List ℕ) (nodes tx rx : ℕ) → bench.opens closed plan ≡ Open nodes tx rx → Each Whole es
+broken : (plan : List ℕ) (es : List Entry) (tail : List ℕ) (nodes tx rx : ℕ) → bench.opens closed plan ≡ Ok (record { nodes = nodes; tx = tx; rx = rx }) → Each Whole es
     → Broken tail → length (input_of plan (all_bytes es ++ tail)) ≤ 65536
     → model_output (input_of plan (all_bytes es ++ tail)) ≡ lines_of (told (opening plan ∷ steps_of rx es)) ++ bad_line
 unfolding pick
 broken plan es tail nodes tx rx e w t h =
     events_read plan tail es nodes tx rx bad e w (Ends-broken tail rx t) h ∙ text_then plan (steps_of rx es) bad refl
 
-refused : (plan events : List ℕ) (why : Refusal) (number : ℕ) → bench.opens closed plan ≡ Refused why number
-    → length (input_of plan events) ≤ 65536 → model_output (input_of plan events) ≡ plan_line (Refused why number)
+refused : (plan events : List ℕ) (why : Refusal) (number : ℕ) → bench.opens closed plan ≡ Err (record { why = why; record_number = number })
+    → length (input_of plan events) ≤ 65536 → model_output (input_of plan events) ≡ plan_line (Err (record { why = why; record_number = number }))
 unfolding asked_of text_of lines_of line_of replies reply_of pick
 refused plan events why number e h =
-    text_read plan events (Refused why number) e h ∙ append-nil (lines_of (told (opening plan ∷ [])))
+    text_read plan events (Err (record { why = why; record_number = number })) e h ∙ append-nil (lines_of (told (opening plan ∷ [])))
     ∙ append-nil (plan_line (bench.opens closed plan)) ∙ ap plan_line e
 
 bad_front : (input : List ℕ) → front.Bad ≡ front_of input → model_output input ≡ bad_line

@@ -8,9 +8,10 @@ use native.Mathlib.Decide.{ℕ_discrete, dec_lt}
 use native.Mathlib.Omega.{arith}
 use lib.ListN.{length, take as first_of, drop, length-append, length-drop, take-append-drop}
 use lib.Seq.{get_or-drop, length-take-le}
+use Rattle.std.specs.Prelude.{Result, Ok, Err}
 use Rattle.facts.specs.Good.{Each}
-use Rattle.answers.specs.declared.Opened.{Opened}
-use Rattle.answers.specs.declared.Opened.TheVariants.{Open, Refused}
+use Rattle.plan.specs.declared.verdict.PlanCounts.{PlanCounts}
+use Rattle.answers.specs.declared.RefusedPlan.{RefusedPlan}
 use Rattle.base.specs.Numbers.{Bytes}
 use Rattle.records.specs.declared.record.Id.{Id}
 use Rattle.records.specs.declared.record.Id.TheVariants.{Standard, Extended}
@@ -219,7 +220,7 @@ split (suc bound) xs h b = one xs b (λ ys l c. split bound ys (omega arith) c)
 
 module _ (output : List ℕ → List ℕ) (rules : InputRules output) where
   -- behind a good plan
-  by_ends : (plan : List ℕ) (es : List Entry) (tail : List ℕ) (nodes tx rx : ℕ) → bench.opens closed plan ≡ Open nodes tx rx → Each Whole es
+  by_ends : (plan : List ℕ) (es : List Entry) (tail : List ℕ) (nodes tx rx : ℕ) → bench.opens closed plan ≡ Ok (record { nodes = nodes; tx = tx; rx = rx }) → Each Whole es
       → (tail ≡ []) ⊎ Broken tail → length (input_of plan (all_bytes es ++ tail)) ≤ 65536
       → output (input_of plan (all_bytes es ++ tail)) ≡ model_output (input_of plan (all_bytes es ++ tail))
   by_ends plan es tail nodes tx rx o w (inr t) h =
@@ -228,13 +229,13 @@ module _ (output : List ℕ → List ℕ) (rules : InputRules output) where
       let same : all_bytes es ++ tail ≡ all_bytes es = rw e (append-nil (all_bytes es)) in
       rw same (rules.whole plan es nodes tx rx o w (rw same at h) ∙ sym (output_meets.whole plan es nodes tx rx o w (rw same at h)))
 
-  by_plan : (plan events : List ℕ) (o : Opened) → bench.opens closed plan ≡ o → Bytes events → length (input_of plan events) ≤ 65536
+  by_plan : (plan events : List ℕ) (o : Result PlanCounts RefusedPlan) → bench.opens closed plan ≡ o → Bytes events → length (input_of plan events) ≤ 65536
       → output (input_of plan events) ≡ model_output (input_of plan events)
-  by_plan plan events (Refused why number) o b h =
-      rules.refused plan events why number o h ∙ sym (output_meets.refused plan events why number o h)
-  by_plan plan events (Open nodes tx rx) o b h =
+  by_plan plan events (Err refused) o b h =
+      rules.refused plan events refused.why refused.record_number o h ∙ sym (output_meets.refused plan events refused.why refused.record_number o h)
+  by_plan plan events (Ok counts) o b h =
       let s = split (length events) events (omega arith) b in
-      rw s.bytes (by_ends plan s.entries s.tail nodes tx rx o s.whole s.ends (rw s.bytes at h))
+      rw s.bytes (by_ends plan s.entries s.tail counts.nodes counts.tx counts.rx o s.whole s.ends (rw s.bytes at h))
 
   by_front : (input : List ℕ) → Bytes input → output input ≡ model_output input
   by_front [] b = rules.short [] (omega arith) ∙ sym (output_meets.short [] (omega arith))

@@ -4,14 +4,15 @@ use mathlib.Core.List.{List, [], ◌∷◌, ◌++◌, append_assoc, append-nil}
 use Prim.Native.Nat.{ℕ, zero, suc, ◌+◌, ◌-◌, ◌%◌}
 use native.Mathlib.Omega.{arith}
 use lib.ListN.{length, replicate, length-replicate}
+use Rattle.std.specs.Prelude.{Result, Ok, Err}
 use Rattle.base.specs.Pick.{pick}
 use Rattle.records.specs.Ids.{behind_id}
 use Rattle.plan.specs.declared.verdict.Verdict.{Verdict}
 use Rattle.plan.specs.declared.verdict.Verdict.TheVariants.{Good, Refused}
 use Rattle.plan.specs.Check.{check_plan}
 use Rattle.facts.specs.Good.{Each}
-use Rattle.answers.specs.declared.Opened.{Opened}
-use Rattle.answers.specs.declared.Opened.TheVariants as OfOpening
+use Rattle.plan.specs.declared.verdict.PlanCounts.{PlanCounts}
+use Rattle.answers.specs.declared.RefusedPlan.{RefusedPlan}
 use Rattle.opening.specs.Opened.{opened_answer, opened_area}
 use Rattle.events.specs.declared.Event.{Event}
 use Rattle.events.specs.declared.Event.TheVariants.{Reception, Tick, Take, Response, NoResponse, Bad, End}
@@ -88,13 +89,13 @@ unfolding opened_answer open_answer
 opens_same (Good nodes tx rx) = refl
 opens_same (Refused reason number) = refl
 
-planned : (o : Opened) (input : List ℕ) (end : ℕ) (a : List ℕ) → Bytes input
+planned : (o : Result PlanCounts RefusedPlan) (input : List ℕ) (end : ℕ) (a : List ℕ) → Bytes input
     → plan_line o ++ area.open_text o input end a
     ≡ lines_of (opened o ∷ replies_in a (asked_of o input end).steps) ++ pick (asked_of o input end).bad bad_line []
 unfolding area.open_text area.text_from asked_of asked_from lines_of line_of replies_in pick
-planned (OfOpening.Open nodes tx rx) input end a b =
-    before (plan_line (OfOpening.Open nodes tx rx)) _ _ _ (events_text (length input - end) input end rx a b)
-planned (OfOpening.Refused why number) input end a b = before (plan_line (OfOpening.Refused why number)) _ [] [] refl
+planned (Ok counts) input end a b =
+    before (plan_line (Ok counts)) _ _ _ (events_text (length input - end) input end counts.rx a b)
+planned (Err refused) input end a b = before (plan_line (Err refused)) _ [] [] refl
 
 -- ---- an area of zeros answers as the model does, in which nothing is open
 
@@ -105,10 +106,10 @@ agrees : (steps : List Step) → Each OfBytes steps → replies_in zeros steps �
 agrees steps h =
     (as_the_model.unopened zeros not_open steps h).replies ∙ ap (λ (n : ℕ). replies (the_model n) closed steps) (length-replicate {A = ℕ} shortest_area 0)
 
-asked_bytes : (o : Opened) (input : List ℕ) (end : ℕ) → Each OfBytes (asked_of o input end).steps
+asked_bytes : (o : Result PlanCounts RefusedPlan) (input : List ℕ) (end : ℕ) → Each OfBytes (asked_of o input end).steps
 unfolding asked_of asked_from Each
-asked_bytes (OfOpening.Open nodes tx rx) input end = asked_calls (length input - end) input end rx
-asked_bytes (OfOpening.Refused why number) input end = tt
+asked_bytes (Ok counts) input end = asked_calls (length input - end) input end counts.rx
+asked_bytes (Err refused) input end = tt
 
 -- the replies on zeros to an opening and what follows
 opened_first : (plan : List ℕ) (steps : List Step) → replies_in zeros (opening plan ∷ steps)
@@ -128,7 +129,7 @@ by_front (front.Plan end) input b =
     planned o input end (opened_area o plan zeros) b
     ∙ ap (λ (rs : List Reply). lines_of rs ++ pick asked.bad bad_line [])
     (sym (opened_first plan asked.steps) ∙ agrees (opening plan ∷ asked.steps) (Bytes-plan input end b, asked_bytes o input end))
-    ∙ ap (λ (x : Opened). text_of plan (asked_of x input end)) (opens_same (check_plan plan))
+    ∙ ap (λ (x : Result PlanCounts RefusedPlan). text_of plan (asked_of x input end)) (opens_same (check_plan plan))
 
 pub same_output : SameOutput
 unfolding area.bench_output model_output

@@ -1,12 +1,11 @@
 -- The bench program's input as it is written, and what the model's text for it is: document 01's sentences, by how bytes stand one after the other,
 -- with no place and no bound.
-use Rattle.std.specs.Prelude.{◌≡◌, List, [], ◌∷◌, ◌++◌, ℕ, ◌+◌, ◌*◌, ◌/◌, ◌%◌, ◌≤◌, ◌<◌, length, replicate, take as first_of, ltb}
+use Rattle.std.specs.Prelude.{◌≡◌, List, [], ◌∷◌, ◌++◌, ℕ, ◌+◌, ◌*◌, ◌/◌, ◌%◌, ◌≤◌, ◌<◌, length, replicate, take as first_of, ltb, Ok, Err}
 use Rattle.base.specs.Pick.{pick}
 use Rattle.records.specs.declared.record.Id.{Id}
 use Rattle.records.specs.declared.record.Id.TheVariants.{Standard, Extended}
 use Rattle.facts.specs.Good.{Each}
 use Rattle.answers.specs.declared.Refusal.{Refusal}
-use Rattle.answers.specs.declared.Opened.TheVariants.{Open, Refused}
 use Rattle.lines.specs.Lines.{plan_line, bad_line}
 use Rattle.model.specs.Calls as calls
 use Rattle.model.specs.Calls.{closed, Step, opening, call}
@@ -86,16 +85,16 @@ steps_of rx (e ∷ es) = step_of rx e ∷ steps_of rx es
 -- what a function from inputs to texts must write
 pub record InputRules (output : List ℕ → List ℕ) : Type 0 where
   -- "The first line is `plan ok NODES TX RX` .. Then one line per event"
-  pub whole : (plan : List ℕ) (entries : List Entry) (nodes tx rx : ℕ) → bench.opens closed plan ≡ Open nodes tx rx → Each Whole entries
+  pub whole : (plan : List ℕ) (entries : List Entry) (nodes tx rx : ℕ) → bench.opens closed plan ≡ Ok (record { nodes = nodes; tx = tx; rx = rx }) → Each Whole entries
       → length (input_of plan (all_bytes entries)) ≤ 65536
       → output (input_of plan (all_bytes entries)) ≡ lines_of (told (opening plan ∷ steps_of rx entries))
   -- "A cut or unknown event record prints `input bad` and ends"
-  pub broken : (plan : List ℕ) (entries : List Entry) (tail : List ℕ) (nodes tx rx : ℕ) → bench.opens closed plan ≡ Open nodes tx rx
+  pub broken : (plan : List ℕ) (entries : List Entry) (tail : List ℕ) (nodes tx rx : ℕ) → bench.opens closed plan ≡ Ok (record { nodes = nodes; tx = tx; rx = rx })
       → Each Whole entries → Broken tail → length (input_of plan (all_bytes entries ++ tail)) ≤ 65536
       → output (input_of plan (all_bytes entries ++ tail)) ≡ lines_of (told (opening plan ∷ steps_of rx entries)) ++ bad_line
   -- "or `plan refused NO RECORD`, which ends it"
-  pub refused : (plan events : List ℕ) (why : Refusal) (number : ℕ) → bench.opens closed plan ≡ Refused why number
-      → length (input_of plan events) ≤ 65536 → output (input_of plan events) ≡ plan_line (Refused why number)
+  pub refused : (plan events : List ℕ) (why : Refusal) (number : ℕ) → bench.opens closed plan ≡ Err (record { why = why; record_number = number })
+      → length (input_of plan events) ≤ 65536 → output (input_of plan events) ≡ plan_line (Err (record { why = why; record_number = number }))
   -- "input over 65,536 bytes, or too short for the plan length or its stated plan, prints that line alone"
   pub long : (input : List ℕ) → 65536 < length input → output input ≡ bad_line
   pub short : (input : List ℕ) → length input < 2 → output input ≡ bad_line

@@ -1,8 +1,8 @@
 -- What the bench program writes for an input, over the model's answers and the lines. Nothing of an area's bytes stands in it.
-use Rattle.std.specs.Prelude.{ℕ, List, [], ◌∷◌, ◌++◌}
+use Rattle.std.specs.Prelude.{ℕ, List, [], ◌∷◌, ◌++◌, Result, Ok, Err}
 use Rattle.base.specs.Pick.{pick}
-use Rattle.answers.specs.declared.Opened.{Opened}
-use Rattle.answers.specs.declared.Opened.TheVariants.{Open, Refused}
+use Rattle.plan.specs.declared.verdict.PlanCounts.{PlanCounts}
+use Rattle.answers.specs.declared.RefusedPlan.{RefusedPlan}
 use Rattle.events.specs.declared.Front.{Front}
 use Rattle.events.specs.declared.Front.TheVariants as front
 use Rattle.events.specs.Events.{front_of, plan_of}
@@ -39,9 +39,9 @@ abbrev pub told : List Step → List Reply
 told steps = replies bench closed steps
 
 -- "The first line is `plan ok NODES TX RX` or `plan refused NO RECORD`, which ends it."
-unfoldable pub asked_of : Opened → List ℕ → ℕ → Asked
-asked_of (Open nodes tx rx) input end = asked_from input end rx
-asked_of (Refused why number) input end = nothing
+unfoldable pub asked_of : Result PlanCounts RefusedPlan → List ℕ → ℕ → Asked
+asked_of (Ok counts) input end = asked_from input end counts.rx
+asked_of (Err refused) input end = nothing
 
 -- "A cut or unknown event record prints `input bad` and ends"
 unfoldable pub text_of : List ℕ → Asked → List ℕ

@@ -8,6 +8,7 @@ use native.Mathlib.Omega.{arith}
 use native.Mathlib.Decide.{ℕ_discrete, dec_lt}
 use lib.ListN.{length, get_or}
 use lib.Seq.{ext_get_or}
+use Rattle.std.specs.Prelude.{Ok}
 use Rattle.bits.specs.Payload.{bit_at, differs}
 use Rattle.bits.proofs.CopyLaws.{differs_exactly}
 use Rattle.records.specs.declared.record.Id.{Id}
@@ -163,7 +164,7 @@ module _ (p : Plan) where
     misses : Misses p g s n i payload → Misses p h s n i payload → Agree g h s (reception n i payload)
     misses a b =
         record {
-          answer = a.answers.answer ∙ ap (λ rows. received (NoRow (length rows))) (those_same a.those b.those) ∙ sym b.answers.answer;
+          answer = a.answers.answer ∙ ap (λ rows. received (Ok (NoRow (length rows)))) (those_same a.those b.those) ∙ sym b.answers.answer;
           next = a.answers.stays ∙ sym b.answers.stays;
         }
 

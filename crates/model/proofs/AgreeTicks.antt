@@ -7,6 +7,7 @@ use native.Mathlib.Omega.{arith}
 use native.Mathlib.Decide.{ℕ_discrete, dec_lt}
 use lib.ListN.{length, get_or}
 use lib.Seq.{ext_get_or}
+use Rattle.std.specs.Prelude.{Option, Result, Ok}
 use Rattle.bits.specs.Payload.{bit_at}
 use Rattle.bits.proofs.PayloadLaws.{bit_at-lt, same_bits}
 use Rattle.records.specs.declared.record.Id.{Id}
@@ -14,6 +15,7 @@ use Rattle.records.specs.declared.record.Entry.{Entry}
 use Rattle.records.specs.declared.record.Entry.TheVariants as entry
 use Rattle.records.specs.Nodes.{frame, request}
 use Rattle.lin.specs.Checksum.{checksum_of}
+use Rattle.answers.specs.declared.Refusal.{Refusal}
 use Rattle.answers.specs.declared.Framing.TheVariants.{Lin}
 use Rattle.answers.specs.declared.Taken.{Taken}
 use Rattle.model.specs.Plan.{Plan, row_in}
@@ -26,8 +28,6 @@ use Rattle.model.specs.FullnessRules.{FullnessRules}
 use Rattle.model.proofs.Ids.{dec_same}
 use Rattle.model.proofs.Words.{state_same, those_same, falls_same, first_or_none, bit_same}
 use Rattle.model.proofs.Nodes.{dec_lin}
-use Rattle.answers.specs.declared.Fullness.TheVariants as counted
-use Rattle.answers.specs.declared.Ticked.TheVariants as clock
 
 -- both give one answer and one state to a call
 pub record Agree (g h : Running) (s : State) (c : Call) : Type 0 where
@@ -54,7 +54,7 @@ module _ (p : Plan) (g h : Running) (s : State) (shape : Shape p s) where
 
   -- ---- take
 
-  takes : (n : ℕ) (rest : List Entry) {x y : Taken} {u v : List ℕ} → Takes g s n rest x u → Takes h s n rest y v → x ≡ y → u ≡ v
+  takes : (n : ℕ) (rest : List Entry) {x y : Result (Option Taken) Refusal} {u v : List ℕ} → Takes g s n rest x u → Takes h s n rest y v → x ≡ y → u ≡ v
       → Agree g h s (take n)
   takes n rest a b e f =
       record {
@@ -101,7 +101,7 @@ module _ (p : Plan) (g h : Running) (s : State) (shape : Shape p s) where
           let y = b.counts l in
           record {
             answer =
-                x.answers.answer ∙ ap (λ bits. full (counted.Owned (length bits))) (those_same x.those y.those) ∙ sym y.answers.answer;
+                x.answers.answer ∙ ap (λ bits. full (Ok (length bits))) (those_same x.those y.those) ∙ sym y.answers.answer;
             next = x.answers.stays ∙ sym y.answers.stays;
           }
 
@@ -158,7 +158,7 @@ module _ (p : Plan) (g h : Running) (s : State) (shape : Shape p s) where
       done : Done p g s report → Done p h s report → Agree g h s (tick report)
       done x y =
           record {
-            answer = x.answer ∙ ap (λ given. ticked clock.Done given) (reports report _ _ x.reports y.reports) ∙ sym y.answer;
+            answer = x.answer ∙ ap (λ given. ticked (Ok tt) given) (reports report _ _ x.reports y.reports) ∙ sym y.answer;
             next = ticks _ _ x.ticks y.ticks;
           }
 

@@ -6,11 +6,12 @@ use Prim.Native.Nat.{ℕ, ◌%◌, ◌≤◌, ◌<◌}
 use native.Mathlib.Omega.{arith}
 use native.Mathlib.Decide.{ℕ_discrete}
 use lib.ListN.{length, get_or}
+use Rattle.std.specs.Prelude.{Result, Ok}
 use Rattle.records.specs.Nodes.{frame, request}
 use Rattle.plan.specs.Rows.{Source, copy, failure, Claim}
+use Rattle.answers.specs.declared.Refusal.{Refusal}
 use Rattle.answers.specs.declared.Received.{Received}
 use Rattle.answers.specs.declared.Received.TheVariants.{Accepted}
-use Rattle.answers.specs.declared.Ticked.TheVariants.{Done}
 use Rattle.model.specs.Plan.{Plan, tx_in, row_in}
 use Rattle.model.specs.State.{State, queue_on}
 use Rattle.model.specs.Calls.{Call, reception, response, no_response, tick, take, fullness, Answer, received, ticked, Running}
@@ -27,7 +28,7 @@ use Rattle.model.proofs.Outcomes.{take_outcome, fullness_outcome, shaped}
 use Rattle.model.proofs.Handlings.{one_given, not_refused, handled_once}
 use Rattle.model.proofs.RxExpiry.{left_shape, step_rx, rx_left}
 
-accepted_one : {x : Answer} {y : Received} → x ≡ received y → x ≡ received Accepted → y ≡ Accepted
+accepted_one : {x : Answer} {y : Result Received Refusal} → x ≡ received y → x ≡ received (Ok Accepted) → y ≡ Ok Accepted
 accepted_one e f = cc
 
 -- ---- a destination brings no request
@@ -79,7 +80,7 @@ module _ (p : Plan) (g : Running) (meets : Runs p g) (r : ℕ) (l : r < length p
   unfolding Leaves
   leaves s k (reception n i payload) = λ e x. go e x (reception_outcome p g meets s k n i payload)
     where
-      go : g.answer s (reception n i payload) ≡ received Accepted → Names p n i r → ReceptionOutcome p g meets s k n i payload → ⊥
+      go : g.answer s (reception n i payload) ≡ received (Ok Accepted) → Names p n i r → ReceptionOutcome p g meets s k n i payload → ⊥
       go e x (inl (y, d, w)) = d (accepted_one w.answer e)
       go e x (inr (q, y, off, w)) = off (rw x.node at c)
   leaves s k (response n i payload sum) = tt
@@ -104,7 +105,7 @@ module _ (p : Plan) (g : Running) (meets : Runs p g) (r : ℕ) (l : r < length p
   silent s k (fullness t) = tt
   silent s k (tick report) = λ given a. go given a (tick_outcome p g meets s k report)
     where
-      go : (given : List ℕ) → g.answer s (tick report) ≡ ticked Done given → TickOutcome p g s report → get_or given r 0 ≡ 0
+      go : (given : List ℕ) → g.answer s (tick report) ≡ ticked (Ok tt) given → TickOutcome p g s report → get_or given r 0 ≡ 0
       go given a (inl (e, u)) = absurd (not_refused a ((meets.tick s k report).refused u).answer)
       go given a (inr (u, w)) = ap (λ z. get_or z r 0) (one_given a w.answer) ∙ w.reports.nothing r l (λ x. x.not_lin c)
 

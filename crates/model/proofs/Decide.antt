@@ -5,6 +5,7 @@ use Prim.Native.Nat.{ℕ, ◌≤◌}
 use native.Mathlib.Omega.{arith}
 use native.Mathlib.Decide.{dec_le}
 use lib.ListN.{get_or}
+use Rattle.std.specs.Prelude.{Err}
 use Rattle.base.specs.Numbers.{Bytes}
 use Rattle.plan.specs.declared.verdict.Reason.{Reason}
 use Rattle.plan.specs.declared.verdict.Reason.TheVariants.{Short, Kind, Place, Count, Range, Order, Data, Owner, Indicator}
@@ -17,7 +18,6 @@ use Rattle.facts.specs.Good.{Each}
 use Rattle.refusals.specs.Table.{Unrefused}
 use Rattle.refusals.proofs.Exactly.{refused_exactly, good_unrefused}
 use Rattle.answers.specs.declared.Refusal.TheVariants.{Plan as BadPlan}
-use Rattle.answers.specs.declared.Opened.TheVariants.{Refused}
 use Rattle.model.specs.Plan.{said}
 use Rattle.model.specs.Calls.{Call, reception, response, no_response, tick, take, fullness, World, closed, holding, Gateway, Step}
 use Rattle.model.specs.Calls.{opening, call, opened, answered, reply_of, world_after, replies, after}
@@ -71,7 +71,7 @@ module _ (room : ℕ) (g h : Gateway) (a : Meets room g) (b : Meets room h) wher
 
     bad : {number at : ℕ} → Numbered g w plan number at → Numbered h w plan number at → Steps g h w (opening plan)
     bad {number} {at} x y =
-        refused x.refused y.refused (ap (λ r. Refused (BadPlan r) at) (one_reason x.reason y.reason (x.numbered ∙ sym y.numbered)))
+        refused x.refused y.refused (ap (λ r. Err (record { why = BadPlan r; record_number = at })) (one_reason x.reason y.reason (x.numbered ∙ sym y.numbered)))
 
     opens : Unrefused plan → Opens g w plan → Opens h w plan → Steps g h w (opening plan)
     unfolding reply_of world_after Sound

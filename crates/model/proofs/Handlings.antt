@@ -7,9 +7,9 @@ use native.Mathlib.Omega.{arith}
 use native.Mathlib.Decide.{ℕ_discrete}
 use lib.ListN.{length}
 use borrow.Author.Tests.{eq-eqb, ne_eqb, le-leb, lt-leb}
+use Rattle.std.specs.Prelude.{Ok, Err}
 use Rattle.base.proofs.Picks.{picks, passes, both}
 use Rattle.answers.specs.declared.Refusal.{Refusal}
-use Rattle.answers.specs.declared.Ticked.TheVariants.{Done, Refused}
 use Rattle.model.specs.Plan.{Plan}
 use Rattle.model.specs.State.{State}
 use Rattle.model.specs.Calls.{tick, Answer, received, responded, silent, ticked, taken, full}
@@ -19,8 +19,8 @@ use Rattle.model.specs.Timers.{handling_of}
 -- ---- what a tick answers
 
 unfoldable IsDone : Answer → Type 0
-IsDone (ticked Done given) = Unit {0}
-IsDone (ticked (Refused why) given) = ⊥
+IsDone (ticked (Ok done) given) = Unit {0}
+IsDone (ticked (Err why) given) = ⊥
 IsDone (received x) = ⊥
 IsDone (responded x) = ⊥
 IsDone (silent x) = ⊥
@@ -35,11 +35,11 @@ given_in (silent x) = []
 given_in (taken x payload) = []
 given_in (full x) = []
 
-pub one_given : {x : Answer} {u v : List ℕ} → x ≡ ticked Done u → x ≡ ticked Done v → u ≡ v
+pub one_given : {x : Answer} {u v : List ℕ} → x ≡ ticked (Ok tt) u → x ≡ ticked (Ok tt) v → u ≡ v
 unfolding given_in
 one_given e f = ap given_in (sym e ∙ f)
 
-pub not_refused : {x : Answer} {u v : List ℕ} {why : Refusal} → x ≡ ticked Done u → x ≡ ticked (Refused why) v → ⊥
+pub not_refused : {x : Answer} {u v : List ℕ} {why : Refusal} → x ≡ ticked (Ok tt) u → x ≡ ticked (Err why) v → ⊥
 unfolding IsDone
 not_refused e f = subst IsDone (sym e ∙ f) tt
 

@@ -9,6 +9,7 @@ use lib.Dec.{eqb, leb, ltb}
 use lib.ListN.{length, length-append, length-set}
 use lib.Seq.{get_or-set_same, get_or-set_other}
 use borrow.Author.Tests.{lt-ltb, le-ltb, le-leb, eq-eqb, eqb-true, leb-true, ltb-true}
+use Rattle.std.specs.Prelude.{Some, Ok}
 use Rattle.base.specs.Pick.{pick}
 use Rattle.base.proofs.Picks.{cases, into, picks, passes}
 use Rattle.records.specs.declared.record.Entry.{Entry}
@@ -29,7 +30,7 @@ use Rattle.model.proofs.Upto.{upto, Those-upto}
 
 module _ (p : Plan) (s : State) (shape : Shape p s) where
   takes : (n : ℕ) → n < p.nodes → (x : Entry) (rest : List Entry) → queue_on s n ≡ x ∷ rest
-      → Takes (running p) s n rest (entry_answer p s n x (length rest)) (handed p s x)
+      → Takes (running p) s n rest (Ok (Some (entry_answer p s n x (length rest)))) (handed p s x)
   unfolding running answer_of next_of taken_answer taken_payload taken pick oldest_answer oldest_payload without_oldest
   takes n l x rest q =
       let e = lt-ltb n p.nodes l in

@@ -6,6 +6,7 @@ use Prim.Native.Nat.{ℕ, ◌≤◌, ◌<◌}
 use native.Mathlib.Omega.{arith}
 use native.Mathlib.Decide.{ℕ_discrete, dec_lt}
 use lib.ListN.{length}
+use Rattle.std.specs.Prelude.{Option, Result, Ok, Err}
 use Rattle.base.proofs.Apart.{differ}
 use Rattle.records.specs.declared.record.Id.{Id}
 use Rattle.records.specs.declared.record.Entry.{Entry}
@@ -16,10 +17,9 @@ use Rattle.lin.specs.Checksum.{checksum_of}
 use Rattle.answers.specs.declared.Refusal.{Refusal}
 use Rattle.answers.specs.declared.Refusal.TheVariants.{NoNode, LongPayload, WrongCall}
 use Rattle.answers.specs.declared.Received.{Received}
-use Rattle.answers.specs.declared.Received.TheVariants.{Accepted, NoRow, TooShort, Refused}
+use Rattle.answers.specs.declared.Received.TheVariants.{Accepted, NoRow, TooShort}
 use Rattle.answers.specs.declared.Responded.{Responded}
 use Rattle.answers.specs.declared.Responded.TheVariants as OfResponse
-use Rattle.answers.specs.declared.Silence.TheVariants as OfSilence
 use Rattle.answers.specs.declared.Taken.{Taken}
 use Rattle.model.specs.Plan.{Plan, row_in}
 use Rattle.model.specs.State.{State, queue_on}
@@ -57,7 +57,7 @@ module _ (p : Plan) (g : Running) (meets : Runs p g) (s : State) (k : Shape p s)
   -- a reception is accepted for the Rx frame that it names, or it is answered otherwise and leaves the state
   abbrev pub ReceptionOutcome : ℕ → Id → List ℕ → Type 0
   ReceptionOutcome n i payload =
-      ((x : Received) × (x ≡ Accepted → ⊥) × Answers g s (reception n i payload) (received x))
+      ((x : Result Received Refusal) × (x ≡ Ok Accepted → ⊥) × Answers g s (reception n i payload) (received x))
       ⊎ ((r : ℕ) × Names p n i r × (LinNode p n → ⊥) × Accepts p g s n i payload r)
 
   pub reception_outcome : (n : ℕ) (i : Id) (payload : List ℕ) → ReceptionOutcome n i payload
@@ -68,21 +68,21 @@ module _ (p : Plan) (g : Running) (meets : Runs p g) (s : State) (k : Shape p s)
 
       row : n < p.nodes → (LinNode p n → ⊥) → length payload ≤ 8 → (r : ℕ) → Names p n i r → Dec (length payload < (row_in p r).frame.size)
           → ReceptionOutcome n i payload
-      row l c m r x (yes d) = inl (TooShort, (λ e. differ cc), a.short l c m r x d)
+      row l c m r x (yes d) = inl (Ok TooShort, (λ e. differ cc), a.short l c m r x d)
       row l c m r x (no d) = inr (r, x, c, a.accepted l c m r x (omega arith))
 
       go : Dec (n < p.nodes) → Dec (LinNode p n) → Dec (8 < length payload) → ((r : ℕ) × Names p n i r) ⊎ ((r : ℕ) → Names p n i r → ⊥)
           → ReceptionOutcome n i payload
-      go (no d) c w v = inl (Refused NoNode, (λ e. differ cc), a.refused (omega arith))
-      go (yes l) (yes c) w v = inl (Refused WrongCall, (λ e. differ cc), a.on_lin l c)
-      go (yes l) (no c) (yes m) v = inl (Refused LongPayload, (λ e. differ cc), a.long l c m)
-      go (yes l) (no c) (no m) (inr f) = let x = a.no_row l c (omega arith) f in inl (NoRow (length x.rows), (λ e. differ cc), x.answers)
+      go (no d) c w v = inl (Err NoNode, (λ e. differ cc), a.refused (omega arith))
+      go (yes l) (yes c) w v = inl (Err WrongCall, (λ e. differ cc), a.on_lin l c)
+      go (yes l) (no c) (yes m) v = inl (Err LongPayload, (λ e. differ cc), a.long l c m)
+      go (yes l) (no c) (no m) (inr f) = let x = a.no_row l c (omega arith) f in inl (Ok (NoRow (length x.rows)), (λ e. differ cc), x.answers)
       go (yes l) (no c) (no m) (inl (r, x)) = row l c (omega arith) r x (dec_lt _ _)
 
   -- a response is accepted for the Rx frame that is asked for, or it is answered otherwise and leaves the state
   abbrev pub ResponseOutcome : ℕ → ℕ → List ℕ → ℕ → Type 0
   ResponseOutcome n i payload sum =
-      ((x : Responded) × (x ≡ OfResponse.Accepted → ⊥) × Answers g s (response n i payload sum) (responded x))
+      ((x : Result Responded Refusal) × (x ≡ Ok OfResponse.Accepted → ⊥) × Answers g s (response n i payload sum) (responded x))
       ⊎ ((r : ℕ) × Polls p n i r × AcceptsResponse p g s n i payload sum r)
 
   pub response_outcome : (n i : ℕ) (payload : List ℕ) (sum : ℕ) → ResponseOutcome n i payload sum
@@ -94,25 +94,25 @@ module _ (p : Plan) (g : Running) (meets : Runs p g) (s : State) (k : Shape p s)
       whole : (r : ℕ) → Polls p n i r → length payload ≤ 8 → (row_in p r).frame.size ≤ length payload → Dec (sum ≡ checksum_of (protected_of i) payload)
           → ResponseOutcome n i payload sum
       whole r x m d (yes e) = inr (r, x, a.accepted r x m d e)
-      whole r x m d (no e) = inl (OfResponse.WrongSum, (λ f. differ cc), a.wrong_sum r x m d e)
+      whole r x m d (no e) = inl (Ok OfResponse.WrongSum, (λ f. differ cc), a.wrong_sum r x m d e)
 
       row : (r : ℕ) → Polls p n i r → Dec (8 < length payload) → Dec (length payload < (row_in p r).frame.size) → ResponseOutcome n i payload sum
-      row r x (yes m) w = inl (OfResponse.Refused LongPayload, (λ e. differ cc), a.long r x m)
-      row r x (no m) (yes d) = inl (OfResponse.TooShort, (λ e. differ cc), a.short r x (omega arith) d)
+      row r x (yes m) w = inl (Err LongPayload, (λ e. differ cc), a.long r x m)
+      row r x (no m) (yes d) = inl (Ok OfResponse.TooShort, (λ e. differ cc), a.short r x (omega arith) d)
       row r x (no m) (no d) = whole r x (omega arith) (omega arith) (ℕ_discrete _ _)
 
       on : n < p.nodes → ((r : ℕ) × Polls p n i r) ⊎ NothingPolled p n i → ResponseOutcome n i payload sum
       on l (inl (r, x)) = row r x (dec_lt _ _) (dec_lt _ _)
-      on l (inr f) = inl (OfResponse.Refused WrongCall, (λ e. differ cc), a.wrong_call l f)
+      on l (inr f) = inl (Err WrongCall, (λ e. differ cc), a.wrong_call l f)
 
       go : Dec (n < p.nodes) → ResponseOutcome n i payload sum
-      go (no d) = inl (OfResponse.Refused NoNode, (λ e. differ cc), a.refused (omega arith))
+      go (no d) = inl (Err NoNode, (λ e. differ cc), a.refused (omega arith))
       go (yes l) = on l (polled p g g s k n i l)
 
   -- "no response" is refused, or it is one of the Rx frame that is asked for
   abbrev pub SilenceOutcome : ℕ → ℕ → Type 0
   SilenceOutcome n i =
-      ((why : Refusal) × Answers g s (no_response n i) (silent (OfSilence.Refused why)))
+      ((why : Refusal) × Answers g s (no_response n i) (silent (Err why)))
       ⊎ ((r : ℕ) × Polls p n i r × Silences p r s (g.next s (no_response n i)))
 
   pub silence_outcome : (n i : ℕ) → SilenceOutcome n i
@@ -139,7 +139,7 @@ module _ (p : Plan) (g : Running) (meets : Runs p g) (s : State) (k : Shape p s)
   -- a take leaves the state, or takes the oldest that waits
   abbrev pub TakeOutcome : ℕ → Type 0
   TakeOutcome n =
-      Left (take n) ⊎ ((e : Entry) × (rest : List Entry) × (queue_on s n ≡ e ∷ rest) × (x : Taken) × (payload : List ℕ) × Takes g s n rest x payload)
+      Left (take n) ⊎ ((e : Entry) × (rest : List Entry) × (queue_on s n ≡ e ∷ rest) × (x : Result (Option Taken) Refusal) × (payload : List ℕ) × Takes g s n rest x payload)
 
   pub take_outcome : (n : ℕ) → TakeOutcome n
   take_outcome n = go (dec_lt n p.nodes)

@@ -6,7 +6,7 @@ use Prim.Native.Nat.{ℕ, ◌+◌, ◌%◌, ◌<◌}
 use native.Mathlib.Omega.{arith}
 use native.Mathlib.Decide.{ℕ_discrete}
 use lib.ListN.{length, get_or}
-use Rattle.answers.specs.declared.Ticked.TheVariants.{Done}
+use Rattle.std.specs.Prelude.{Ok}
 use Rattle.model.specs.Plan.{Plan, row_in}
 use Rattle.model.specs.State.{State}
 use Rattle.model.specs.Calls.{Call, reception, response, no_response, tick, take, fullness, ticked, Running}
@@ -70,7 +70,7 @@ module _ (p : Plan) (g : Running) (meets : Runs p g) where
     silent s k (fullness t) m = tt
     silent s k (tick report) m = λ given a. go given a (tick_outcome p g meets s k report)
       where
-        go : (given : List ℕ) → g.answer s (tick report) ≡ ticked Done given → TickOutcome p g s report → get_or given r 0 ≡ 0
+        go : (given : List ℕ) → g.answer s (tick report) ≡ ticked (Ok tt) given → TickOutcome p g s report → get_or given r 0 ≡ 0
         go given a (inl (e, u)) = absurd (not_refused a ((meets.tick s k report).refused u).answer)
         go given a (inr (u, w)) =
             ap (λ z. get_or z r 0) (one_given a w.answer)
@@ -95,7 +95,7 @@ module _ (p : Plan) (g : Running) (meets : Runs p g) where
 
     -- the last handling
     times_out : (LinRow p r → ⊥) → (s : State) → Shape p s → held s ≡ 1 → (report given : List ℕ) → s.number % (row_in p r).frame.prescaler ≡ 0
-        → g.answer s (tick report) ≡ ticked Done given → get_or given r 0 ≢ 0
+        → g.answer s (tick report) ≡ ticked (Ok tt) given → get_or given r 0 ≢ 0
     times_out c s k one report given e a z = go (tick_outcome p g meets s k report) (ℕ_discrete (get_or s.longs r 0) 1)
       where
         x : TimesOut p s r

@@ -1,11 +1,10 @@
 -- "29-bit identifiers from the bridge" (document 02, Ticket 6), as a case of the model: "ID 32 in one format is not ID 32 in the other." On node 0, Rx frame
 -- 0 has the 11-bit ID 20 hex and Rx frame 1 the 29-bit ID 20 hex; the one is copied to the first byte of Tx frame 0, the other to its second byte. Tx frame
 -- 0 has the 29-bit ID 09F80100 hex, and is sent on reception.
-use Rattle.std.specs.Prelude.{◌≡◌, List, [], ◌∷◌, ℕ}
+use Rattle.std.specs.Prelude.{◌≡◌, List, [], ◌∷◌, ℕ, Some, Ok}
 use Rattle.records.specs.declared.record.Id.{Id}
 use Rattle.records.specs.declared.record.Id.TheVariants.{Standard, Extended}
 use Rattle.facts.specs.PlanCases.{bridge}
-use Rattle.answers.specs.declared.Opened.TheVariants.{Open}
 use Rattle.answers.specs.declared.Received.TheVariants.{Accepted, NoRow}
 use Rattle.answers.specs.declared.Framing.TheVariants.{Can}
 use Rattle.answers.specs.declared.Taken.TheVariants.{Frame}
@@ -17,13 +16,13 @@ a_byte id byte = call (reception 0 id (byte ∷ []))
 abbrev sent : ℕ → ℕ → Reply
 sent first second =
     answered
-    (taken (Frame (record { tx = record { 0 = 0 }; id = Extended 0x09F80100; size = 2; waiting = 0; framing = Can })) (first ∷ second ∷ []))
+    (taken (Ok (Some (Frame (record { tx = record { 0 = 0 }; id = Extended 0x09F80100; size = 2; waiting = 0; framing = Can })))) (first ∷ second ∷ []))
 
 abbrev is_accepted : Reply
-is_accepted = answered (received Accepted)
+is_accepted = answered (received (Ok Accepted))
 
 abbrev is_stranger : ℕ → Reply
-is_stranger place = answered (received (NoRow place))
+is_stranger place = answered (received (Ok (NoRow place)))
 
 abbrev pub bridge_steps : List Step
 bridge_steps =
@@ -34,7 +33,7 @@ bridge_steps =
 
 abbrev pub bridge_replies : List Reply
 bridge_replies =
-    opened (Open 1 1 2) ∷ is_accepted ∷ sent 0xAA 0x00 ∷ is_accepted ∷ sent 0xAA 0xBB
+    opened (Ok (record { nodes = 1; tx = 1; rx = 2 })) ∷ is_accepted ∷ sent 0xAA 0x00 ∷ is_accepted ∷ sent 0xAA 0xBB
     ∷ is_stranger 0 ∷ is_stranger 1 ∷ is_stranger 1 ∷ is_stranger 1 ∷ is_stranger 2 ∷ is_stranger 2 ∷ is_stranger 2 ∷ []
 
 abbrev pub BridgeAnswered : Type 0

@@ -1,22 +1,15 @@
 -- Any openings and calls on one area, and all that a caller is answered: numbers, report bytes, payload bytes.
-use Rattle.std.specs.Prelude.{ℕ, List, [], ◌∷◌}
+use Rattle.std.specs.Prelude.{ℕ, List, [], ◌∷◌, Option, Result, Ok, Err}
 use Rattle.records.specs.declared.record.Id.{Id}
 use Rattle.plan.specs.Check.{check_plan}
+use Rattle.answers.specs.declared.Refusal.{Refusal}
 use Rattle.answers.specs.declared.Refusal.TheVariants.{NotOpen}
-use Rattle.answers.specs.declared.Opened.{Opened}
-use Rattle.answers.specs.declared.Opened.TheVariants as OfOpening
+use Rattle.plan.specs.declared.verdict.PlanCounts.{PlanCounts}
+use Rattle.answers.specs.declared.RefusedPlan.{RefusedPlan}
 use Rattle.answers.specs.declared.Received.{Received}
-use Rattle.answers.specs.declared.Received.TheVariants as OfReception
 use Rattle.answers.specs.declared.Responded.{Responded}
-use Rattle.answers.specs.declared.Responded.TheVariants as OfResponse
-use Rattle.answers.specs.declared.Silence.{Silence}
-use Rattle.answers.specs.declared.Silence.TheVariants as OfSilence
-use Rattle.answers.specs.declared.Ticked.{Ticked}
-use Rattle.answers.specs.declared.Ticked.TheVariants as OfTick
+use Rattle.answers.specs.declared.Timeout.{Timeout}
 use Rattle.answers.specs.declared.Taken.{Taken}
-use Rattle.answers.specs.declared.Taken.TheVariants as OfTake
-use Rattle.answers.specs.declared.Fullness.{Fullness}
-use Rattle.answers.specs.declared.Fullness.TheVariants as OfFullness
 use Rattle.model.specs.Plan.{Plan, said}
 use Rattle.model.specs.State.{State}
 use Rattle.model.specs.Opening.{begun, open_answer}
@@ -37,12 +30,12 @@ pub data Call : Type 0 where
   fullness : ℕ → Call
 
 pub data Answer : Type 0 where
-  received : Received → Answer
-  responded : Responded → Answer
-  silent : Silence → Answer
-  ticked : Ticked → List ℕ → Answer
-  taken : Taken → List ℕ → Answer
-  full : Fullness → Answer
+  received : Result Received Refusal → Answer
+  responded : Result Responded Refusal → Answer
+  silent : Result Timeout Refusal → Answer
+  ticked : Result (Unit {0}) Refusal → List ℕ → Answer
+  taken : Result (Option Taken) Refusal → List ℕ → Answer
+  full : Result ℕ Refusal → Answer
 
 -- any functions of a state that could be those of an opened gateway
 pub record Running : Type 0 where
@@ -78,19 +71,19 @@ pub data World : Type 0 where
 
 -- any functions that could be a gateway's: what an opening answers and leaves, what a call answers and leaves
 pub record Gateway : Type 0 where
-  pub opens : World → List ℕ → Opened
+  pub opens : World → List ℕ → Result PlanCounts RefusedPlan
   pub begins : World → List ℕ → World
   pub answer : World → Call → Answer
   pub next : World → Call → World
 
 -- 11: "in a call, the area .. does not begin with hex 47 57"
 unfoldable pub refused_closed : Call → Answer
-refused_closed (reception n id payload) = received (OfReception.Refused NotOpen)
-refused_closed (response n id payload sum) = responded (OfResponse.Refused NotOpen)
-refused_closed (no_response n id) = silent (OfSilence.Refused NotOpen)
-refused_closed (tick report) = ticked (OfTick.Refused NotOpen) report
-refused_closed (take n) = taken (OfTake.Refused NotOpen) []
-refused_closed (fullness t) = full (OfFullness.Refused NotOpen)
+refused_closed (reception n id payload) = received (Err NotOpen)
+refused_closed (response n id payload sum) = responded (Err NotOpen)
+refused_closed (no_response n id) = silent (Err NotOpen)
+refused_closed (tick report) = ticked (Err NotOpen) report
+refused_closed (take n) = taken (Err NotOpen) []
+refused_closed (fullness t) = full (Err NotOpen)
 
 unfoldable pub answer_from : World → Call → Answer
 answer_from closed c = refused_closed c
@@ -101,9 +94,9 @@ next_from closed c = closed
 next_from (holding plan s) c = holding plan (next_of (said plan) s c)
 
 -- "A refusal writes nothing."
-unfoldable pub open_next : Opened → World → List ℕ → World
-open_next (OfOpening.Open nodes tx rx) w plan = holding plan (begun (said plan))
-open_next (OfOpening.Refused why number) w plan = w
+unfoldable pub open_next : Result PlanCounts RefusedPlan → World → List ℕ → World
+open_next (Ok counts) w plan = holding plan (begun (said plan))
+open_next (Err refused) w plan = w
 
 -- the model, on an area of some length
 unfoldable pub the_model : ℕ → Gateway
@@ -122,7 +115,7 @@ pub data Step : Type 0 where
   call : Call → Step
 
 pub data Reply : Type 0 where
-  opened : Opened → Reply
+  opened : Result PlanCounts RefusedPlan → Reply
   answered : Answer → Reply
 
 unfoldable pub reply_of : Gateway → World → Step → Reply

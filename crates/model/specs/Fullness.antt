@@ -1,10 +1,9 @@
 -- "Fullness of a Tx frame answers how many of its bits have an owner, 0 to 64."
-use Rattle.std.specs.Prelude.{ℕ, zero, suc, ◌+◌, Bool, false, ◌||◌, List, [], ◌∷◌, eqb, ltb, leb, length}
+use Rattle.std.specs.Prelude.{ℕ, zero, suc, ◌+◌, Bool, false, ◌||◌, List, [], ◌∷◌, eqb, ltb, leb, length, Result, Ok, Err}
 use Rattle.base.specs.Pick.{pick}
 use Rattle.plan.specs.Rows.{width_of, Claim, all_claims}
+use Rattle.answers.specs.declared.Refusal.{Refusal}
 use Rattle.answers.specs.declared.Refusal.TheVariants.{NoFrame}
-use Rattle.answers.specs.declared.Fullness.{Fullness}
-use Rattle.answers.specs.declared.Fullness.TheVariants.{Owned, Refused}
 use Rattle.model.specs.Plan.{Plan}
 
 unfoldable pub is_held : List Claim → ℕ → ℕ → Bool
@@ -15,5 +14,5 @@ unfoldable pub owned_below : List Claim → ℕ → ℕ → ℕ
 owned_below cs t zero = 0
 owned_below cs t (suc b) = owned_below cs t b + pick (is_held cs t b) 1 0
 
-unfoldable pub fullness_of : Plan → ℕ → Fullness
-fullness_of p t = pick (ltb t (length p.tx)) (Owned (owned_below (all_claims p.rows) t 64)) (Refused NoFrame)
+unfoldable pub fullness_of : Plan → ℕ → Result ℕ Refusal
+fullness_of p t = pick (ltb t (length p.tx)) (Ok (owned_below (all_claims p.rows) t 64)) (Err NoFrame)

@@ -1,9 +1,8 @@
 -- "Fullness of a Tx frame answers how many of its bits have an owner, 0 to 64", as statements about any gateway.
-use Rattle.std.specs.Prelude.{List, ℕ, ◌≤◌, ◌<◌, length}
+use Rattle.std.specs.Prelude.{List, ℕ, ◌≤◌, ◌<◌, length, Ok, Err}
 use Rattle.plan.specs.Rows.{Claim, all_claims}
 use Rattle.facts.specs.Good.{Holds}
 use Rattle.answers.specs.declared.Refusal.TheVariants.{NoFrame}
-use Rattle.answers.specs.declared.Fullness.TheVariants.{Owned as OwnedBits, Refused}
 use Rattle.model.specs.Plan.{Plan}
 use Rattle.model.specs.State.{State}
 use Rattle.model.specs.Calls.{fullness, full, Running}
@@ -18,9 +17,9 @@ pub record Owned (p : Plan) (t b : ℕ) : Type 0 where
 pub record Counts (p : Plan) (g : Running) (s : State) (t : ℕ) : Type 0 where
   pub bits : List ℕ
   pub those : Those (Owned p t) bits
-  pub answers : Answers g s (fullness t) (full (OwnedBits (length bits)))
+  pub answers : Answers g s (fullness t) (full (Ok (length bits)))
 
 pub record FullnessRules (p : Plan) (g : Running) (s : State) (t : ℕ) : Type 0 where
   -- 15: "no such Tx frame"
-  pub refused : length p.tx ≤ t → Answers g s (fullness t) (full (Refused NoFrame))
+  pub refused : length p.tx ≤ t → Answers g s (fullness t) (full (Err NoFrame))
   pub counts : t < length p.tx → Counts p g s t

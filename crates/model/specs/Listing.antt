@@ -1,13 +1,12 @@
 -- "Plan, 39 bytes .. Events: ..": document 01's listing, from the plan's bytes to the answers, as a case of the model.
-use Rattle.std.specs.Prelude.{◌≡◌, List, [], ◌∷◌}
+use Rattle.std.specs.Prelude.{◌≡◌, List, [], ◌∷◌, Option, Some, None, Result, Ok}
 use Rattle.records.specs.declared.record.Id.TheVariants.{Standard}
 use Rattle.facts.specs.PlanCases.{listing}
-use Rattle.answers.specs.declared.Opened.TheVariants.{Open}
+use Rattle.answers.specs.declared.Refusal.{Refusal}
 use Rattle.answers.specs.declared.Received.TheVariants.{Accepted, NoRow, TooShort}
-use Rattle.answers.specs.declared.Ticked.TheVariants.{Done}
 use Rattle.answers.specs.declared.Framing.TheVariants.{Can}
 use Rattle.answers.specs.declared.Taken.{Taken}
-use Rattle.answers.specs.declared.Taken.TheVariants.{Nothing, Frame}
+use Rattle.answers.specs.declared.Taken.TheVariants.{Frame}
 use Rattle.model.specs.Calls.{reception, tick, take, received, ticked, taken, closed, the_model, Step, opening, call, Reply, opened, answered, replies}
 
 -- "take 0; reception 0, ID 0020, one byte 2C; take 0; tick; tick; tick; take 0; tick; the same reception; take 0; receptions on node 0: ID 0021,
@@ -19,24 +18,24 @@ steps =
     ∷ call (reception 0 (Standard 0x21) (0x2C ∷ [])) ∷ call (reception 0 (Standard 0x20) []) ∷ []
 
 -- Tx frame 0, after which none waits
-abbrev pub a_frame : Taken
-a_frame = Frame (record { tx = record { 0 = 0 }; id = Standard 256; size = 2; waiting = 0; framing = Can })
+abbrev pub a_frame : Result (Option Taken) Refusal
+a_frame = Ok (Some (Frame (record { tx = record { 0 = 0 }; id = Standard 256; size = 2; waiting = 0; framing = Can })))
 
 abbrev pub told : List Reply
 told =
-    opened (Open 1 1 1)
-    ∷ answered (taken Nothing [])
-    ∷ answered (received Accepted)
+    opened (Ok (record { nodes = 1; tx = 1; rx = 1 }))
+    ∷ answered (taken (Ok None) [])
+    ∷ answered (received (Ok Accepted))
     ∷ answered (taken a_frame (0x02 ∷ 0xC0 ∷ []))
-    ∷ answered (ticked Done (0 ∷ []))
-    ∷ answered (ticked Done (1 ∷ []))
-    ∷ answered (ticked Done (0 ∷ []))
+    ∷ answered (ticked (Ok tt) (0 ∷ []))
+    ∷ answered (ticked (Ok tt) (1 ∷ []))
+    ∷ answered (ticked (Ok tt) (0 ∷ []))
     ∷ answered (taken a_frame (0x02 ∷ 0xC1 ∷ []))
-    ∷ answered (ticked Done (2 ∷ []))
-    ∷ answered (received Accepted)
-    ∷ answered (taken Nothing [])
-    ∷ answered (received (NoRow 1))
-    ∷ answered (received TooShort)
+    ∷ answered (ticked (Ok tt) (2 ∷ []))
+    ∷ answered (received (Ok Accepted))
+    ∷ answered (taken (Ok None) [])
+    ∷ answered (received (Ok (NoRow 1)))
+    ∷ answered (received (Ok TooShort))
     ∷ []
 
 abbrev pub ListingAnswered : Type 0

@@ -1,14 +1,14 @@
 -- "Opening checks the plan and fills the area: .. payloads and timers initial, long counters at the long count, queues empty, tick counter 0. It
 -- answers the counts of nodes, Tx and Rx frames."
-use Rattle.std.specs.Prelude.{ℕ, List, [], ◌∷◌, leb, replicate}
+use Rattle.std.specs.Prelude.{ℕ, List, [], ◌∷◌, leb, replicate, Result, Ok, Err}
 use Rattle.base.specs.Pick.{pick}
 use Rattle.records.specs.Records.{eight_bytes}
 use Rattle.plan.specs.declared.verdict.Verdict.{Verdict}
 use Rattle.plan.specs.declared.verdict.Verdict.TheVariants as verdict
 use Rattle.plan.specs.Shortest.{shortest_area}
 use Rattle.answers.specs.declared.Refusal.TheVariants.{Plan as BadPlan, ShortArea}
-use Rattle.answers.specs.declared.Opened.{Opened}
-use Rattle.answers.specs.declared.Opened.TheVariants.{Open, Refused}
+use Rattle.plan.specs.declared.verdict.PlanCounts.{PlanCounts}
+use Rattle.answers.specs.declared.RefusedPlan.{RefusedPlan}
 use Rattle.model.specs.Plan.{Plan}
 use Rattle.model.specs.State.{State}
 
@@ -29,6 +29,6 @@ begun p =
 
 -- 1 to 9 by the check; then 10: "the plan is good and the area is shorter than 32,768 bytes". "Refusal 10 carries record number 0." The number is
 -- the area's length.
-unfoldable pub open_answer : ℕ → Verdict → Opened
-open_answer room (verdict.Good nodes tx rx) = pick (leb shortest_area room) (Open nodes tx rx) (Refused ShortArea 0)
-open_answer room (verdict.Refused reason number) = Refused (BadPlan reason) number
+unfoldable pub open_answer : ℕ → Verdict → Result PlanCounts RefusedPlan
+open_answer room (verdict.Good nodes tx rx) = pick (leb shortest_area room) (Ok (record { nodes = nodes; tx = tx; rx = rx })) (Err (record { why = ShortArea; record_number = 0 }))
+open_answer room (verdict.Refused reason number) = Err (record { why = BadPlan reason; record_number = number })

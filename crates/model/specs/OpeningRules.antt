@@ -1,5 +1,5 @@
 -- "Opening", as statements about any gateway, and what a call is answered where nothing was opened.
-use Rattle.std.specs.Prelude.{◌≡◌, List, [], ℕ, ◌≤◌, ◌<◌, length, get_or}
+use Rattle.std.specs.Prelude.{◌≡◌, List, [], ℕ, ◌≤◌, ◌<◌, length, get_or, Result, Ok, Err}
 use Rattle.records.specs.declared.record.Id.{Id}
 use Rattle.records.specs.Records.{records, eight_bytes}
 use Rattle.plan.specs.declared.verdict.Reason.{Reason}
@@ -8,14 +8,8 @@ use Rattle.records.specs.Kinds.{node_stage, tx_stage, rx_stage}
 use Rattle.facts.specs.Good.{count_of}
 use Rattle.refusals.specs.Table.{Refuses, Unrefused}
 use Rattle.answers.specs.declared.Refusal.TheVariants.{Plan as BadPlan, ShortArea, NotOpen}
-use Rattle.answers.specs.declared.Opened.{Opened}
-use Rattle.answers.specs.declared.Opened.TheVariants.{Open, Refused}
-use Rattle.answers.specs.declared.Received.TheVariants as OfReception
-use Rattle.answers.specs.declared.Responded.TheVariants as OfResponse
-use Rattle.answers.specs.declared.Silence.TheVariants as OfSilence
-use Rattle.answers.specs.declared.Ticked.TheVariants as OfTick
-use Rattle.answers.specs.declared.Taken.TheVariants as OfTake
-use Rattle.answers.specs.declared.Fullness.TheVariants as OfFullness
+use Rattle.plan.specs.declared.verdict.PlanCounts.{PlanCounts}
+use Rattle.answers.specs.declared.RefusedPlan.{RefusedPlan}
 use Rattle.model.specs.Plan.{Plan, said, tx_in, row_in}
 use Rattle.model.specs.State.{State, kept_of, queue_on}
 use Rattle.model.specs.Calls.{Call, reception, response, no_response, tick, take, fullness}
@@ -34,13 +28,13 @@ pub record Begins (p : Plan) (s : State) : Type 0 where
 
 -- "It answers the counts of nodes, Tx and Rx frames."
 pub record Opens (g : Gateway) (w : World) (plan : List ℕ) : Type 0 where
-  pub answer : g.opens w plan ≡ Open (count_of node_stage (records plan)) (count_of tx_stage (records plan)) (count_of rx_stage (records plan))
+  pub answer : g.opens w plan ≡ Ok (record { nodes = count_of node_stage (records plan); tx = count_of tx_stage (records plan); rx = count_of rx_stage (records plan) })
   pub state : State
   pub begins : g.begins w plan ≡ holding plan state
   pub initial : Begins (said plan) state
 
 -- an opening is refused: the answer, and "A refusal writes nothing."
-pub record RefusedOpening (g : Gateway) (w : World) (plan : List ℕ) (x : Opened) : Type 0 where
+pub record RefusedOpening (g : Gateway) (w : World) (plan : List ℕ) (x : Result PlanCounts RefusedPlan) : Type 0 where
   pub answer : g.opens w plan ≡ x
   pub stays : g.begins w plan ≡ w
 
@@ -48,13 +42,13 @@ pub record RefusedOpening (g : Gateway) (w : World) (plan : List ℕ) (x : Opene
 pub record Numbered (g : Gateway) (w : World) (plan : List ℕ) (number at : ℕ) : Type 0 where
   pub reason : Reason
   pub numbered : number_of reason ≡ number
-  pub refused : RefusedOpening g w plan (Refused (BadPlan reason) at)
+  pub refused : RefusedOpening g w plan (Err (record { why = BadPlan reason; record_number = at }))
 
 -- the number is the area's length
 pub record OpeningRules (room : ℕ) (g : Gateway) (w : World) (plan : List ℕ) : Type 0 where
   pub bad : (number at : ℕ) → Refuses plan number at → Numbered g w plan number at
   -- 10: "the plan is good and the area is shorter than 32,768 bytes"; "Refusal 10 carries record number 0."
-  pub short : Unrefused plan → room < 32768 → RefusedOpening g w plan (Refused ShortArea 0)
+  pub short : Unrefused plan → room < 32768 → RefusedOpening g w plan (Err (record { why = ShortArea; record_number = 0 }))
   pub good : Unrefused plan → 32768 ≤ room → Opens g w plan
 
 -- ---- 11: "in a call, the area .. does not begin with hex 47 57"
@@ -64,9 +58,9 @@ pub record Closed (g : Gateway) (c : Call) (x : Answer) : Type 0 where
   pub stays : g.next closed c ≡ closed
 
 pub record ClosedRules (g : Gateway) : Type 0 where
-  pub reception : (n : ℕ) (id : Id) (payload : List ℕ) → Closed g (reception n id payload) (received (OfReception.Refused NotOpen))
-  pub response : (n id : ℕ) (payload : List ℕ) (sum : ℕ) → Closed g (response n id payload sum) (responded (OfResponse.Refused NotOpen))
-  pub no_response : (n id : ℕ) → Closed g (no_response n id) (silent (OfSilence.Refused NotOpen))
-  pub tick : (report : List ℕ) → Closed g (tick report) (ticked (OfTick.Refused NotOpen) report)
-  pub take : (n : ℕ) → Closed g (take n) (taken (OfTake.Refused NotOpen) [])
-  pub fullness : (t : ℕ) → Closed g (fullness t) (full (OfFullness.Refused NotOpen))
+  pub reception : (n : ℕ) (id : Id) (payload : List ℕ) → Closed g (reception n id payload) (received (Err NotOpen))
+  pub response : (n id : ℕ) (payload : List ℕ) (sum : ℕ) → Closed g (response n id payload sum) (responded (Err NotOpen))
+  pub no_response : (n id : ℕ) → Closed g (no_response n id) (silent (Err NotOpen))
+  pub tick : (report : List ℕ) → Closed g (tick report) (ticked (Err NotOpen) report)
+  pub take : (n : ℕ) → Closed g (take n) (taken (Err NotOpen) [])
+  pub fullness : (t : ℕ) → Closed g (fullness t) (full (Err NotOpen))

@@ -1,13 +1,14 @@
 -- "Reception takes node, ID and payload."
-use Rattle.std.specs.Prelude.{ℕ, suc, ◌+◌, ◌/◌, ◌%◌, Bool, List, [], ◌∷◌, eqb, ltb, leb, length}
+use Rattle.std.specs.Prelude.{ℕ, suc, ◌+◌, ◌/◌, ◌%◌, Bool, List, [], ◌∷◌, eqb, ltb, leb, length, Result, Ok, Err}
 use Rattle.base.specs.Pick.{pick}
 use Rattle.bits.specs.Payload.{set_bit, copied, differs}
 use Rattle.records.specs.declared.record.Id.{Id}
 use Rattle.records.specs.Ids.{same_id, is_before}
 use Rattle.plan.specs.Rows.{Source, copy, failure, Claim, Row}
+use Rattle.answers.specs.declared.Refusal.{Refusal}
 use Rattle.answers.specs.declared.Refusal.TheVariants.{NoNode, LongPayload, WrongCall}
 use Rattle.answers.specs.declared.Received.{Received}
-use Rattle.answers.specs.declared.Received.TheVariants.{Accepted, NoRow, TooShort, Refused}
+use Rattle.answers.specs.declared.Received.TheVariants.{Accepted, NoRow, TooShort}
 use Rattle.model.specs.Plan.{Plan, tx_in, row_in, on_lin}
 use Rattle.model.specs.State.{State, kept_of, with_kept, with_rx_timer, with_long}
 use Rattle.model.specs.Scheduling.{scheduled}
@@ -53,21 +54,21 @@ unfoldable pub accepted : Plan → State → ℕ → List ℕ → State
 accepted p s r payload = put p (restarted p s r) payload (row_in p r).claims
 
 -- "Answer 1 carries this number" (document 02, Ticket 4)
-unfoldable pub found_answer : Plan → ℕ → Id → Found → List ℕ → Received
-found_answer p n id nothing payload = NoRow (smaller n id p.rows)
-found_answer p n id (at r) payload = pick (ltb (length payload) (row_in p r).frame.size) TooShort Accepted
+unfoldable pub found_answer : Plan → ℕ → Id → Found → List ℕ → Result Received Refusal
+found_answer p n id nothing payload = Ok (NoRow (smaller n id p.rows))
+found_answer p n id (at r) payload = pick (ltb (length payload) (row_in p r).frame.size) (Ok TooShort) (Ok Accepted)
 
 unfoldable pub found_state : Plan → State → Found → List ℕ → State
 found_state p s nothing payload = s
 found_state p s (at r) payload = pick (ltb (length payload) (row_in p r).frame.size) s (accepted p s r payload)
 
 -- 12, then 16: "the old reception gives 16 on a LIN node, after 12" (document 02, Ticket 2), then 13: "a received payload is longer than 8 bytes"
-unfoldable pub received_answer : Plan → State → ℕ → Id → List ℕ → Received
+unfoldable pub received_answer : Plan → State → ℕ → Id → List ℕ → Result Received Refusal
 received_answer p s n id payload =
     pick (ltb n p.nodes)
-    (pick (on_lin p n) (Refused WrongCall)
-    (pick (leb (length payload) 8) (found_answer p n id (find n id 0 p.rows) payload) (Refused LongPayload)))
-    (Refused NoNode)
+    (pick (on_lin p n) (Err WrongCall)
+    (pick (leb (length payload) 8) (found_answer p n id (find n id 0 p.rows) payload) (Err LongPayload)))
+    (Err NoNode)
 
 unfoldable pub received : Plan → State → ℕ → Id → List ℕ → State
 received p s n id payload =

@@ -1,11 +1,11 @@
 -- "Reception", as statements about any gateway: equations and inequalities, and no function of the model.
-use Rattle.std.specs.Prelude.{◌≡◌, ◌≢◌, ◌⊎◌, List, [], ◌∷◌, ◌++◌, ℕ, ◌+◌, ◌≤◌, ◌<◌, length, get_or}
+use Rattle.std.specs.Prelude.{◌≡◌, ◌≢◌, ◌⊎◌, List, [], ◌∷◌, ◌++◌, ℕ, ◌+◌, ◌≤◌, ◌<◌, length, get_or, Ok, Err}
 use Rattle.bits.specs.Payload.{bit_at}
 use Rattle.records.specs.declared.record.Id.{Id}
 use Rattle.records.specs.Nodes.{frame}
 use Rattle.plan.specs.Rows.{copy, failure, Claim}
 use Rattle.answers.specs.declared.Refusal.TheVariants.{NoNode, LongPayload, WrongCall}
-use Rattle.answers.specs.declared.Received.TheVariants.{Accepted, NoRow, TooShort, Refused}
+use Rattle.answers.specs.declared.Received.TheVariants.{Accepted, NoRow, TooShort}
 use Rattle.model.specs.Plan.{Plan, tx_in, row_in}
 use Rattle.model.specs.State.{State, kept_of, queue_on}
 use Rattle.model.specs.Calls.{reception, received, Running}
@@ -87,7 +87,7 @@ pub record Restarts (p : Plan) (r : ℕ) (s x : State) : Type 0 where
   pub recounts : Recounts p r s x
 
 pub record Accepts (p : Plan) (g : Running) (s : State) (n : ℕ) (id : Id) (payload : List ℕ) (r : ℕ) : Type 0 where
-  pub answer : g.answer s (reception n id payload) ≡ received Accepted
+  pub answer : g.answer s (reception n id payload) ≡ received (Ok Accepted)
   pub again : State
   pub restarts : Restarts p r s again
   pub puts : InOrder p payload (row_in p r).claims again (g.next s (reception n id payload))
@@ -96,18 +96,18 @@ pub record Accepts (p : Plan) (g : Running) (s : State) (n : ℕ) (id : Id) (pay
 pub record Misses (p : Plan) (g : Running) (s : State) (n : ℕ) (id : Id) (payload : List ℕ) : Type 0 where
   pub rows : List ℕ
   pub those : Those (Smaller p n id) rows
-  pub answers : Answers g s (reception n id payload) (received (NoRow (length rows)))
+  pub answers : Answers g s (reception n id payload) (received (Ok (NoRow (length rows))))
 
 pub record ReceptionRules (p : Plan) (g : Running) (s : State) (n : ℕ) (id : Id) (payload : List ℕ) : Type 0 where
   -- 12, then 16: "the old reception gives 16 on a LIN node, after 12" (document 02, Ticket 2), then 13: "a received payload is longer than 8 bytes"
-  pub refused : p.nodes ≤ n → Answers g s (reception n id payload) (received (Refused NoNode))
-  pub on_lin : n < p.nodes → LinNode p n → Answers g s (reception n id payload) (received (Refused WrongCall))
-  pub long : n < p.nodes → (LinNode p n → ⊥) → 8 < length payload → Answers g s (reception n id payload) (received (Refused LongPayload))
+  pub refused : p.nodes ≤ n → Answers g s (reception n id payload) (received (Err NoNode))
+  pub on_lin : n < p.nodes → LinNode p n → Answers g s (reception n id payload) (received (Err WrongCall))
+  pub long : n < p.nodes → (LinNode p n → ⊥) → 8 < length payload → Answers g s (reception n id payload) (received (Err LongPayload))
   -- "A frame with no matching row is not processed further: answer 1, nothing changes"
   pub no_row : n < p.nodes → (LinNode p n → ⊥) → length payload ≤ 8 → ((r : ℕ) → Names p n id r → ⊥) → Misses p g s n id payload
   -- "A payload shorter than the row's size: answer 2, nothing changes."
   pub short : n < p.nodes → (LinNode p n → ⊥) → length payload ≤ 8 → (r : ℕ) → Names p n id r → length payload < (row_in p r).frame.size
-      → Answers g s (reception n id payload) (received TooShort)
+      → Answers g s (reception n id payload) (received (Ok TooShort))
   -- "Otherwise it is accepted, answer 0"
   pub accepted : n < p.nodes → (LinNode p n → ⊥) → length payload ≤ 8 → (r : ℕ) → Names p n id r → (row_in p r).frame.size ≤ length payload
       → Accepts p g s n id payload r

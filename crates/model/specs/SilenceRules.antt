@@ -1,8 +1,8 @@
 -- "A driver call "no response"", as statements about any gateway: equations and inequalities, and no function of the model (document 02, Ticket 2).
-use Rattle.std.specs.Prelude.{◌≡◌, ◌≢◌, ◌⊎◌, ◌↔◌, ℕ, ◌≤◌, ◌<◌, length, get_or}
+use Rattle.std.specs.Prelude.{◌≡◌, ◌≢◌, ◌⊎◌, ◌↔◌, ℕ, ◌≤◌, ◌<◌, length, get_or, Ok, Err}
 use Rattle.bits.specs.Payload.{bit_at}
 use Rattle.answers.specs.declared.Refusal.TheVariants.{NoNode, WrongCall}
-use Rattle.answers.specs.declared.Silence.TheVariants.{Short, Long, Refused}
+use Rattle.answers.specs.declared.Timeout.TheVariants.{Short, Long}
 use Rattle.model.specs.Plan.{Plan, row_in}
 use Rattle.model.specs.State.{State, kept_of}
 use Rattle.model.specs.Calls.{no_response, silent, Running}
@@ -25,9 +25,9 @@ pub record Silences (p : Plan) (r : ℕ) (s x : State) : Type 0 where
 
 pub record SilenceRules (p : Plan) (g : Running) (s : State) (n id : ℕ) : Type 0 where
   -- "the new calls, by node and ID, give 11, 12, then 16 where the node is not LIN or has no such Rx frame"
-  pub refused : p.nodes ≤ n → Answers g s (no_response n id) (silent (Refused NoNode))
-  pub wrong_call : n < p.nodes → NothingPolled p n id → Answers g s (no_response n id) (silent (Refused WrongCall))
+  pub refused : p.nodes ≤ n → Answers g s (no_response n id) (silent (Err NoNode))
+  pub wrong_call : n < p.nodes → NothingPolled p n id → Answers g s (no_response n id) (silent (Err WrongCall))
   -- it "answers 1 or 2 as the report would"
-  pub short : (r : ℕ) → Polls p n id r → get_or s.longs r 0 ≢ 1 → g.answer s (no_response n id) ≡ silent Short
-  pub long : (r : ℕ) → Polls p n id r → get_or s.longs r 0 ≡ 1 → g.answer s (no_response n id) ≡ silent Long
+  pub short : (r : ℕ) → Polls p n id r → get_or s.longs r 0 ≢ 1 → g.answer s (no_response n id) ≡ silent (Ok Short)
+  pub long : (r : ℕ) → Polls p n id r → get_or s.longs r 0 ≡ 1 → g.answer s (no_response n id) ≡ silent (Ok Long)
   pub then : (r : ℕ) → Polls p n id r → Silences p r s (g.next s (no_response n id))

@@ -2,7 +2,7 @@
 -- its payload of that size (.. with "none" or a refusal, the empty part)."
 -- "A take answers a request (Rx number, ID, size, waiting count, the empty part ..) or a frame, with the protected identifier .. A take of a LIN Tx
 -- frame gives" the checksum "of the payload it hands back." (document 02, Ticket 2)
-use Rattle.std.specs.Prelude.{ℕ, List, [], ◌∷◌, ltb, length, take}
+use Rattle.std.specs.Prelude.{ℕ, List, [], ◌∷◌, ltb, length, take, Option, Some, None, Result, Ok, Err}
 use Rattle.base.specs.Pick.{pick}
 use Rattle.records.specs.declared.record.Id.{Id}
 use Rattle.records.specs.declared.record.Entry.{Entry}
@@ -10,11 +10,12 @@ use Rattle.records.specs.declared.record.Entry.TheVariants as entry
 use Rattle.records.specs.Ids.{plain_id}
 use Rattle.lin.specs.Identifier.{protected_of}
 use Rattle.lin.specs.Checksum.{checksum_of}
+use Rattle.answers.specs.declared.Refusal.{Refusal}
 use Rattle.answers.specs.declared.Refusal.TheVariants.{NoNode}
 use Rattle.answers.specs.declared.Framing.{Framing}
 use Rattle.answers.specs.declared.Framing.TheVariants.{Can, Lin}
 use Rattle.answers.specs.declared.Taken.{Taken}
-use Rattle.answers.specs.declared.Taken.TheVariants.{Nothing, Frame, Request, Refused}
+use Rattle.answers.specs.declared.Taken.TheVariants.{Frame, Request}
 use Rattle.model.specs.Plan.{Plan, tx_in, row_in, on_lin}
 use Rattle.model.specs.State.{State, kept_of, queue_on, with_queue}
 
@@ -47,9 +48,9 @@ entry_answer p s n (entry.Request r) waiting =
       protected = protected_of (plain_id (row_in p r.0).frame.id);
     })
 
-unfoldable pub oldest_answer : Plan → State → ℕ → List Entry → Taken
-oldest_answer p s n [] = Nothing
-oldest_answer p s n (e ∷ rest) = entry_answer p s n e (length rest)
+unfoldable pub oldest_answer : Plan → State → ℕ → List Entry → Result (Option Taken) Refusal
+oldest_answer p s n [] = Ok None
+oldest_answer p s n (e ∷ rest) = Ok (Some (entry_answer p s n e (length rest)))
 
 unfoldable pub oldest_payload : Plan → State → List Entry → List ℕ
 oldest_payload p s [] = []
@@ -60,8 +61,8 @@ without_oldest s n [] = s
 without_oldest s n (e ∷ rest) = with_queue s n rest
 
 -- 12: "no such node"
-unfoldable pub taken_answer : Plan → State → ℕ → Taken
-taken_answer p s n = pick (ltb n p.nodes) (oldest_answer p s n (queue_on s n)) (Refused NoNode)
+unfoldable pub taken_answer : Plan → State → ℕ → Result (Option Taken) Refusal
+taken_answer p s n = pick (ltb n p.nodes) (oldest_answer p s n (queue_on s n)) (Err NoNode)
 
 unfoldable pub taken_payload : Plan → State → ℕ → List ℕ
 taken_payload p s n = pick (ltb n p.nodes) (oldest_payload p s (queue_on s n)) []

@@ -1,12 +1,11 @@
 -- "Tick." A timer is handled "at ticks numbered from 0 that the prescaler divides. The counter moves on last."
-use Rattle.std.specs.Prelude.{ℕ, zero, suc, ◌%◌, Bool, List, [], ◌∷◌, eqb, leb, length, get_or, set}
+use Rattle.std.specs.Prelude.{ℕ, zero, suc, ◌%◌, Bool, List, [], ◌∷◌, eqb, leb, length, get_or, set, Result, Ok, Err}
 use Rattle.base.specs.Pick.{pick}
 use Rattle.bits.specs.Payload.{set_bit}
 use Rattle.clock.specs.Timer.{lowered}
 use Rattle.plan.specs.Rows.{Source, copy, failure, Claim}
+use Rattle.answers.specs.declared.Refusal.{Refusal}
 use Rattle.answers.specs.declared.Refusal.TheVariants.{ShortReport}
-use Rattle.answers.specs.declared.Ticked.{Ticked}
-use Rattle.answers.specs.declared.Ticked.TheVariants.{Done, Refused}
 use Rattle.model.specs.Plan.{Plan, tx_in, row_in, on_lin}
 use Rattle.model.specs.State.{State, kept_of, with_kept, with_tx_timer, with_rx_timer, with_long, with_number}
 use Rattle.model.specs.Scheduling.{scheduled, requested}
@@ -79,8 +78,8 @@ unfoldable pub ticked_state : Plan → State → State
 ticked_state p s = let t = rx_turns p (length p.rows) (tx_turns p (length p.tx) s) in with_number t (suc s.number)
 
 -- 14: "the report is shorter than the Rx frame count"
-unfoldable pub tick_answer : Plan → State → List ℕ → Ticked
-tick_answer p s report = pick (leb (length p.rows) (length report)) Done (Refused ShortReport)
+unfoldable pub tick_answer : Plan → State → List ℕ → Result (Unit {0}) Refusal
+tick_answer p s report = pick (leb (length p.rows) (length report)) (Ok tt) (Err ShortReport)
 
 unfoldable pub ticked : Plan → State → List ℕ → State
 ticked p s report = pick (leb (length p.rows) (length report)) (ticked_state p s) s

@@ -1,10 +1,9 @@
 -- "Tick", as statements about any gateway: equations and inequalities, and no function of the model.
-use Rattle.std.specs.Prelude.{◌≡◌, ◌≢◌, ◌⊎◌, ◌↔◌, List, ◌++◌, map, ℕ, suc, ◌+◌, ◌%◌, ◌≤◌, ◌<◌, length, get_or}
+use Rattle.std.specs.Prelude.{◌≡◌, ◌≢◌, ◌⊎◌, ◌↔◌, List, ◌++◌, map, ℕ, suc, ◌+◌, ◌%◌, ◌≤◌, ◌<◌, length, get_or, Ok, Err}
 use Rattle.bits.specs.Payload.{bit_at}
 use Rattle.records.specs.Nodes.{frame, request}
 use Rattle.plan.specs.Rows.{failure, Claim}
 use Rattle.answers.specs.declared.Refusal.TheVariants.{ShortReport}
-use Rattle.answers.specs.declared.Ticked.TheVariants.{Done as TickDone, Refused}
 use Rattle.model.specs.Plan.{Plan, tx_in, row_in}
 use Rattle.model.specs.State.{State, kept_of, queue_on}
 use Rattle.model.specs.Calls.{tick, ticked, Running}
@@ -100,11 +99,11 @@ pub record Reports (p : Plan) (s : State) (lent given : List ℕ) : Type 0 where
 
 pub record Done (p : Plan) (g : Running) (s : State) (report : List ℕ) : Type 0 where
   pub given : List ℕ
-  pub answer : g.answer s (tick report) ≡ ticked TickDone given
+  pub answer : g.answer s (tick report) ≡ ticked (Ok tt) given
   pub reports : Reports p s report given
   pub ticks : Ticks p s (g.next s (tick report))
 
 pub record TickRules (p : Plan) (g : Running) (s : State) (report : List ℕ) : Type 0 where
   -- 14: "the report is shorter than the Rx frame count"
-  pub refused : length report < length p.rows → Answers g s (tick report) (ticked (Refused ShortReport) report)
+  pub refused : length report < length p.rows → Answers g s (tick report) (ticked (Err ShortReport) report)
   pub done : length p.rows ≤ length report → Done p g s report

@@ -1,9 +1,8 @@
 -- "Thus a timer loaded with v above 0 expires at its v-th handling, unless loaded again first": of any gateway that meets the rules, over any calls.
-use Rattle.std.specs.Prelude.{◌≡◌, ◌≢◌, List, [], ◌∷◌, ℕ, suc, ◌+◌, ◌%◌, ◌≤◌, ◌<◌, eqb, leb, length, get_or}
+use Rattle.std.specs.Prelude.{◌≡◌, ◌≢◌, List, [], ◌∷◌, ℕ, suc, ◌+◌, ◌%◌, ◌≤◌, ◌<◌, eqb, leb, length, get_or, Ok}
 use Rattle.base.specs.Pick.{pick}
 use Rattle.records.specs.Nodes.{frame, request}
 use Rattle.answers.specs.declared.Received.TheVariants.{Accepted}
-use Rattle.answers.specs.declared.Ticked.TheVariants.{Done}
 use Rattle.model.specs.Plan.{Plan, tx_in, row_in}
 use Rattle.model.specs.State.{State, queue_on}
 use Rattle.model.specs.Calls.{Call, reception, response, no_response, tick, take, fullness, received, ticked, Running}
@@ -37,7 +36,7 @@ handlings p prescaler g s (c ∷ cs) = handling_of p prescaler s c + handlings p
 
 -- a call is no reception that is accepted for Rx frame r, so it does not load the timer; "Reception does not reload a LIN timer." (document 02, Ticket 2)
 unfoldable pub Leaves : Plan → Running → ℕ → State → Call → Type 0
-Leaves p g r s (reception n id payload) = g.answer s (reception n id payload) ≡ received Accepted → Names p n id r → ⊥
+Leaves p g r s (reception n id payload) = g.answer s (reception n id payload) ≡ received (Ok Accepted) → Names p n id r → ⊥
 Leaves p g r s (response n id payload sum) = Unit {0}
 Leaves p g r s (no_response n id) = Unit {0}
 Leaves p g r s (tick report) = Unit {0}
@@ -46,7 +45,7 @@ Leaves p g r s (fullness t) = Unit {0}
 
 -- a tick reports nothing of Rx frame r
 unfoldable pub Silent : Running → ℕ → State → Call → Type 0
-Silent g r s (tick report) = (given : List ℕ) → g.answer s (tick report) ≡ ticked Done given → get_or given r 0 ≡ 0
+Silent g r s (tick report) = (given : List ℕ) → g.answer s (tick report) ≡ ticked (Ok tt) given → get_or given r 0 ≡ 0
 Silent g r s (reception n id payload) = Unit {0}
 Silent g r s (response n id payload sum) = Unit {0}
 Silent g r s (no_response n id) = Unit {0}
@@ -59,7 +58,7 @@ pub record RxWaits (p : Plan) (g : Running) (s : State) (r : ℕ) (calls : List 
   pub silent : Throughout (Silent g r) g s calls
   pub expires : suc (handlings p (row_in p r).frame.prescaler g s calls) ≡ get_or s.rx_timers r 0
       → (report given : List ℕ) → (state_left g s calls).number % (row_in p r).frame.prescaler ≡ 0
-      → g.answer (state_left g s calls) (tick report) ≡ ticked Done given → get_or given r 0 ≢ 0
+      → g.answer (state_left g s calls) (tick report) ≡ ticked (Ok tt) given → get_or given r 0 ≢ 0
 
 abbrev pub RxExpiry : Type 0
 RxExpiry =

@@ -1,6 +1,6 @@
 -- "Opening checks the plan and fills the area: hex 47 57 at its start, which no later call alters, payloads and timers initial, long counters
 -- at the long count, queues empty, tick counter 0. It answers the counts of nodes, Tx and Rx frames."
-use Rattle.std.specs.Prelude.{◌≡◌, ℕ, zero, suc, ◌+◌, ◌/◌, ◌%◌, ◌≤◌, List, [], ◌∷◌, length, set, ◌==◌, nat_lt, slice_index, slice_set}
+use Rattle.std.specs.Prelude.{◌≡◌, ℕ, zero, suc, ◌+◌, ◌/◌, ◌%◌, ◌≤◌, List, [], ◌∷◌, length, set, ◌==◌, nat_lt, slice_index, slice_set, Result, Ok, Err}
 use Rattle.base.specs.Pick.{pick}
 use Rattle.base.specs.Numbers.{byte_at, low_at, set_low}
 use Rattle.bits.specs.Owners.{owners}
@@ -22,8 +22,8 @@ use Rattle.area.specs.Layout.{node, queue, tx_reload, rx_reload, tx_timer, rx_ti
 use Rattle.area.specs.Layout.{can_count}
 use Rattle.area.specs.Queue.{room_of}
 use Rattle.answers.specs.declared.Refusal.TheVariants.{Plan, ShortArea}
-use Rattle.answers.specs.declared.Opened.{Opened}
-use Rattle.answers.specs.declared.Opened.TheVariants.{Open, Refused}
+use Rattle.plan.specs.declared.verdict.PlanCounts.{PlanCounts}
+use Rattle.answers.specs.declared.RefusedPlan.{RefusedPlan}
 
 -- ---- an empty area with the plan in it
 
@@ -170,11 +170,11 @@ unfoldable pub opened : List ℕ → List ℕ → List ℕ
 opened plan a = with_fullness (sets_of plan) 256 (with_rings 16 (with_records 0 (records plan) (blank plan a)))
 
 -- "10: the plan is good and the area is shorter than 32,768 bytes"; "Refusal 10 carries record number 0."
-unfoldable pub opened_answer : Verdict → ℕ → Opened
-opened_answer (verdict.Good nodes tx rx) n = pick (long_enough n) (Open nodes tx rx) (Refused ShortArea 0)
-opened_answer (verdict.Refused reason number) n = Refused (Plan reason) number
+unfoldable pub opened_answer : Verdict → ℕ → Result PlanCounts RefusedPlan
+opened_answer (verdict.Good nodes tx rx) n = pick (long_enough n) (Ok (record { nodes = nodes; tx = tx; rx = rx })) (Err (record { why = ShortArea; record_number = 0 }))
+opened_answer (verdict.Refused reason number) n = Err (record { why = Plan reason; record_number = number })
 
 -- "A refusal writes nothing."
-unfoldable pub opened_area : Opened → List ℕ → List ℕ → List ℕ
-opened_area (Open nodes tx rx) plan a = opened plan a
-opened_area (Refused why number) plan a = a
+unfoldable pub opened_area : Result PlanCounts RefusedPlan → List ℕ → List ℕ → List ℕ
+opened_area (Ok counts) plan a = opened plan a
+opened_area (Err refused) plan a = a

@@ -8,10 +8,10 @@ ghost use Rattle.opening.specs.Opened.{blank, with_records, with_rings, with_ful
 use crate::blank::make_blank;
 use crate::queues::{with_fullness, with_rings};
 use crate::record::with_records;
-use answers::{Opened, Refusal};
+use answers::{Refusal, RefusedPlan};
 use area::layout::AREA_LENGTH;
 use plan::check::check_with;
-use plan::verdict::Verdict;
+use plan::verdict::{PlanCounts, Verdict};
 
 // The area as the plan begins it, where `sets` has the owned bits of each Tx frame.
 fn fill(plan: &[u8], sets: &[u64], area: &mut [u8])
@@ -26,7 +26,7 @@ fn fill(plan: &[u8], sets: &[u64], area: &mut [u8])
 }
 
 // Checks the plan, and fills the area where the plan is good and the area is long enough. A refusal writes nothing.
-pub fn open(plan: &[u8], area: &mut [u8]) -> Opened
+pub fn open(plan: &[u8], area: &mut [u8]) -> Result<PlanCounts, RefusedPlan>
     ensures answer { result ≡ opened_answer (check_plan plan.now) (length area.old) }
     ensures bytes { area.new ≡ opened_area result plan.now area.old }
 {
@@ -35,17 +35,17 @@ pub fn open(plan: &[u8], area: &mut [u8]) -> Opened
     match verdict {
         Verdict::Good { nodes, tx, rx } => {
             if area.len() < AREA_LENGTH {
-                return Opened::Refused {
+                return Err(RefusedPlan {
                     why: Refusal::ShortArea,
-                    record: 0,
-                };
+                    record_number: 0,
+                });
             }
             fill(plan, &sets, area);
-            Opened::Open { nodes, tx, rx }
+            Ok(PlanCounts { nodes, tx, rx })
         }
-        Verdict::Refused { reason, record } => Opened::Refused {
+        Verdict::Refused { reason, record } => Err(RefusedPlan {
             why: Refusal::Plan(reason),
-            record,
-        },
+            record_number: record,
+        }),
     }
 }

@@ -7,11 +7,11 @@ use lib.ListN.{length, take, replicate, length-append}
 use lib.Seq.{take_at, length-take-le}
 use borrow.Author.Tests.{le-leb}
 use borrow.Rule.Slice.PartMut.{mid_of, put_mid}
+use Rattle.std.specs.Prelude.{Result, Ok, Err}
 use Rattle.base.proofs.Picks.{picks}
 use Rattle.plan.specs.Shortest.{shortest_area}
-use Rattle.answers.specs.declared.Refusal.{Refusal}
-use Rattle.answers.specs.declared.Opened.{Opened}
-use Rattle.answers.specs.declared.Opened.TheVariants as opened
+use Rattle.plan.specs.declared.verdict.PlanCounts.{PlanCounts}
+use Rattle.answers.specs.declared.RefusedPlan.{RefusedPlan}
 use Rattle.opening.specs.Opened.{opened_area}
 use Rattle.events.specs.declared.Event.{Event}
 use Rattle.events.specs.declared.Event.TheVariants.{Reception, Tick, Take, Response, NoResponse, Bad, End}
@@ -92,15 +92,15 @@ turn input at rx a out line k used size next a' whole lt p h l d n w =
     ∙ w
 
 -- the first line, and where the events begin
-pub first_good : (input out area : List ℕ) (end size n t rx : ℕ) (answer : Opened) → answer ≡ opened.Open n t rx → take size out ≡ plan_line answer
-    → area ≡ opened_area answer (plan_of input end) (replicate shortest_area 0) → take size out ++ text_from input end rx area ≡ plan_text answer input end
+pub first_good : (input out area : List ℕ) (end size : ℕ) (counts : PlanCounts) (answer : Result PlanCounts RefusedPlan) → answer ≡ Ok counts → take size out ≡ plan_line answer
+    → area ≡ opened_area answer (plan_of input end) (replicate shortest_area 0) → take size out ++ text_from input end counts.rx area ≡ plan_text answer input end
 unfolding plan_text open_text
-first_good input out area end size n t rx answer e s d = rw (s, d, e)
+first_good input out area end size counts answer e s d = rw (s, d, e)
 
-pub first_refused : (input out area : List ℕ) (end size number : ℕ) (why : Refusal) (answer : Opened) → answer ≡ opened.Refused why number
+pub first_refused : (input out area : List ℕ) (end size : ℕ) (refused : RefusedPlan) (answer : Result PlanCounts RefusedPlan) → answer ≡ Err refused
     → take size out ≡ plan_line answer → take size out ++ text_from input (length input) 0 area ≡ plan_text answer input end
 unfolding plan_text open_text
-first_refused input out area end size number why answer e s = rw (s, text_end input (length input) 0 area (omega arith), e)
+first_refused input out area end size refused answer e s = rw (s, text_end input (length input) 0 area (omega arith), e)
 
 pub first_bad : (input out area : List ℕ) (size : ℕ) → front_of input ≡ front.Bad → take size out ≡ bad_line
     → take size out ++ text_from input (length input) 0 area ≡ bench_output input

@@ -1,11 +1,11 @@
 -- What the bench program writes for an input: "The first line is" the plan's, "Then one line per event", until the input ends or is bad.
-use Rattle.std.specs.Prelude.{ℕ, zero, suc, ◌+◌, ◌-◌, ◌%◌, List, [], ◌++◌, length, replicate}
+use Rattle.std.specs.Prelude.{ℕ, zero, suc, ◌+◌, ◌-◌, ◌%◌, List, [], ◌++◌, length, replicate, Result, Ok, Err}
 use Rattle.records.specs.declared.record.Id.{Id}
 use Rattle.records.specs.Ids.{behind_id}
 use Rattle.plan.specs.Check.{check_plan}
 use Rattle.plan.specs.Shortest.{shortest_area}
-use Rattle.answers.specs.declared.Opened.{Opened}
-use Rattle.answers.specs.declared.Opened.TheVariants as opened
+use Rattle.plan.specs.declared.verdict.PlanCounts.{PlanCounts}
+use Rattle.answers.specs.declared.RefusedPlan.{RefusedPlan}
 use Rattle.opening.specs.Opened.{opened_answer, opened_area}
 use Rattle.reception.specs.Reception.{received_answer, received_area}
 use Rattle.polling.specs.Polling.{responded_answer, responded_area, silent_answer, silent_area}
@@ -91,14 +91,14 @@ text_from input at rx a = text_in (length input - at) input at rx a
 -- ---- the whole output
 
 -- the plan's line, and where the plan is good the events' lines; the area that is lent is 32,768 bytes of 0
-abbrev pub open_of : List ℕ → ℕ → Opened
+abbrev pub open_of : List ℕ → ℕ → Result PlanCounts RefusedPlan
 open_of input end = opened_answer (check_plan (plan_of input end)) shortest_area
 
-unfoldable pub open_text : Opened → List ℕ → ℕ → List ℕ → List ℕ
-open_text (opened.Open nodes tx rx) input end a = text_from input end rx a
-open_text (opened.Refused why number) input end a = []
+unfoldable pub open_text : Result PlanCounts RefusedPlan → List ℕ → ℕ → List ℕ → List ℕ
+open_text (Ok counts) input end a = text_from input end counts.rx a
+open_text (Err refused) input end a = []
 
-unfoldable pub plan_text : Opened → List ℕ → ℕ → List ℕ
+unfoldable pub plan_text : Result PlanCounts RefusedPlan → List ℕ → ℕ → List ℕ
 plan_text answer input end = plan_line answer ++ open_text answer input end (opened_area answer (plan_of input end) (replicate shortest_area 0))
 
 unfoldable pub front_text : Front → List ℕ → List ℕ

@@ -7,40 +7,41 @@ use native.Mathlib.Omega.{arith}
 use lib.Dec.{eqb}
 use lib.ListN.{length}
 use borrow.Author.Tests.{lt-ltb, le-ltb, le-leb, lt-leb}
+use Rattle.std.specs.Prelude.{Result, Ok, Err}
 use Rattle.base.specs.Pick.{pick}
 use Rattle.base.specs.Numbers.{byte_at}
 use Rattle.records.specs.declared.record.RxNumber.{RxNumber}
 use Rattle.area.specs.Layout.{long, marked, node_count}
+use Rattle.answers.specs.declared.Refusal.{Refusal}
 use Rattle.answers.specs.declared.Refusal.TheVariants.{NotOpen, NoNode, LongPayload, WrongCall}
 use Rattle.answers.specs.declared.Responded.{Responded}
-use Rattle.answers.specs.declared.Responded.TheVariants as responded
-use Rattle.answers.specs.declared.Silence.{Silence}
-use Rattle.answers.specs.declared.Silence.TheVariants as silence
+use Rattle.answers.specs.declared.Timeout.{Timeout}
+use Rattle.answers.specs.declared.Timeout.TheVariants as silence
 use Rattle.reception.specs.declared.lookup.Found.TheVariants.{At, Nothing}
 use Rattle.ticking.specs.Tick.{expired_area, expired_report}
 use Rattle.polling.specs.Polling.{polled, row_answer, row_area, polled_answer, polled_area, responded_answer, responded_area}
 use Rattle.polling.specs.Polling.{silence_of, silenced_by, silent_answer, silent_area}
 
 module _ (a : List ℕ) (n id : ℕ) (payload : List ℕ) (sum : ℕ) where
-  abbrev pub Responds : Responded → List ℕ → Type 0
+  abbrev pub Responds : Result Responded Refusal → List ℕ → Type 0
   Responds x b = (x ≡ responded_answer a n id payload sum) × (b ≡ responded_area a n id payload sum)
 
-  pub not_open : marked a ≡ false → Responds (responded.Refused NotOpen) a
+  pub not_open : marked a ≡ false → Responds (Err NotOpen) a
   unfolding responded_answer responded_area pick
   not_open e = (rw e, rw e)
 
   module _ (opened : marked a ≡ true) where
-    pub no_node : node_count a ≤ n → Responds (responded.Refused NoNode) a
+    pub no_node : node_count a ≤ n → Responds (Err NoNode) a
     unfolding responded_answer responded_area pick
     no_node h = let t = le-ltb n (node_count a) h in (rw (opened, t), rw (opened, t))
 
     module _ (known : n < node_count a) where
-      pub wrong_call : (place : ℕ) → polled a n id ≡ Nothing place → Responds (responded.Refused WrongCall) a
+      pub wrong_call : (place : ℕ) → polled a n id ≡ Nothing place → Responds (Err WrongCall) a
       unfolding responded_answer responded_area polled_answer polled_area pick
       wrong_call place e = let t = lt-ltb n (node_count a) known in (rw (opened, t, e), rw (opened, t, e))
 
       module _ (r : RxNumber) (found : polled a n id ≡ At r) where
-        pub long_payload : 8 < length payload → Responds (responded.Refused LongPayload) a
+        pub long_payload : 8 < length payload → Responds (Err LongPayload) a
         unfolding responded_answer responded_area polled_answer polled_area pick
         long_payload h =
             let t = lt-ltb n (node_count a) known in
@@ -48,7 +49,7 @@ module _ (a : List ℕ) (n id : ℕ) (payload : List ℕ) (sum : ℕ) where
             (rw (opened, t, found, u), rw (opened, t, found, u))
 
         pub goes_on :
-            {x : Responded} {b : List ℕ} → length payload ≤ 8 → x ≡ row_answer a (r.0 % 256) id payload sum → b ≡ row_area a (r.0 % 256) id payload sum
+            {x : Result Responded Refusal} {b : List ℕ} → length payload ≤ 8 → x ≡ row_answer a (r.0 % 256) id payload sum → b ≡ row_area a (r.0 % 256) id payload sum
             → Responds x b
         unfolding responded_answer responded_area polled_answer polled_area pick
         goes_on h e f =
@@ -68,33 +69,33 @@ report_one true d = absurd (d refl)
 report_one false d = refl
 
 module _ (a : List ℕ) (n id : ℕ) where
-  abbrev pub Silences : Silence → List ℕ → Type 0
+  abbrev pub Silences : Result Timeout Refusal → List ℕ → Type 0
   Silences x b = (x ≡ silent_answer a n id) × (b ≡ silent_area a n id)
 
-  pub silent_not_open : marked a ≡ false → Silences (silence.Refused NotOpen) a
+  pub silent_not_open : marked a ≡ false → Silences (Err NotOpen) a
   unfolding silent_answer silent_area pick
   silent_not_open e = (rw e, rw e)
 
   module _ (opened : marked a ≡ true) where
-    pub silent_no_node : node_count a ≤ n → Silences (silence.Refused NoNode) a
+    pub silent_no_node : node_count a ≤ n → Silences (Err NoNode) a
     unfolding silent_answer silent_area pick
     silent_no_node h = let t = le-ltb n (node_count a) h in (rw (opened, t), rw (opened, t))
 
     module _ (known : n < node_count a) where
-      pub silent_wrong_call : (place : ℕ) → polled a n id ≡ Nothing place → Silences (silence.Refused WrongCall) a
+      pub silent_wrong_call : (place : ℕ) → polled a n id ≡ Nothing place → Silences (Err WrongCall) a
       unfolding silent_answer silent_area silence_of silenced_by pick
       silent_wrong_call place e = let t = lt-ltb n (node_count a) known in (rw (opened, t, e), rw (opened, t, e))
 
       -- q is the row's number in range, and b what a timeout leaves
       module _ (r : RxNumber) (found : polled a n id ≡ At r) (q : ℕ) (within : q ≡ r.0 % 256) {b : List ℕ} (out : b ≡ expired_area a q) where
-        pub times_out_long : expired_report a q ≡ 2 → Silences silence.Long b
+        pub times_out_long : expired_report a q ≡ 2 → Silences (Ok silence.Long) b
         unfolding expired_report silent_answer silent_area silence_of silenced_by pick
         times_out_long e =
             let t = lt-ltb n (node_count a) known in
             let u = report_two (eqb (byte_at a (long q)) 1) e in
             (rw (opened, t, found, ← within, u), rw (opened, t, found, ← within) out)
 
-        pub times_out_short : (expired_report a q ≡ 2 → ⊥) → Silences silence.Short b
+        pub times_out_short : (expired_report a q ≡ 2 → ⊥) → Silences (Ok silence.Short) b
         unfolding expired_report silent_answer silent_area silence_of silenced_by pick
         times_out_short d =
             let t = lt-ltb n (node_count a) known in

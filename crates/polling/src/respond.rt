@@ -1,5 +1,5 @@
 // The response of a LIN node to a request.
-ghost use Rattle.std.specs.Prelude.{◌≡◌, ◌≤◌, ◌<◌, length};
+ghost use Rattle.std.specs.Prelude.{◌≡◌, ◌≤◌, ◌<◌, length, Ok};
 ghost use Rattle.area.specs.Layout.{last_place, LongEnough, rx_fields_place};
 ghost use Rattle.polling.specs.Polling.{is_sum, long_again, accepted_area, row_answer, row_area, responded_answer, responded_area};
 
@@ -7,7 +7,7 @@ use crate::row::polled_row;
 use answers::{Refusal, Responded};
 use area::claims::write_failure;
 use area::frames::{rx_fields_place, rx_long, rx_size};
-use area::header::{has_node, is_marked};
+use area::guards::{check_node, check_open};
 use area::layout::{ORDER_BYTE, long, row_in_range};
 use reception::lookup::Found;
 use reception::walk::walk;
@@ -15,32 +15,32 @@ use records::decode::RX_FIELDS;
 use records::record::RxNumber;
 
 // A response for an Rx frame of a LIN node, with its checksum.
-pub fn respond(area: &mut [u8], node: usize, id: u32, payload: &[u8], sum: u8) -> Responded
+pub fn respond(
+    area: &mut [u8],
+    node: usize,
+    id: u32,
+    payload: &[u8],
+    sum: u8,
+) -> Result<Responded, Refusal>
     ensures answer { result ≡ responded_answer area.old node id payload.now sum }
     ensures bytes { area.new ≡ responded_area area.old node id payload.now sum }
 {
-    let open = is_marked(area);
-    if !open {
-        return Responded::Refused(Refusal::NotOpen);
-    }
-    let there = has_node(area, node);
-    if !there {
-        return Responded::Refused(Refusal::NoNode);
-    }
+    check_open(area)?;
+    check_node(area, node)?;
     let found = polled_row(area, node, id);
     let Found::At(r) = found else {
-        return Responded::Refused(Refusal::WrongCall);
+        return Err(Refusal::WrongCall);
     };
     if 8 < payload.len() {
-        return Responded::Refused(Refusal::LongPayload);
+        return Err(Refusal::LongPayload);
     }
-    deliver(area, row_in_range(r), id, payload, sum)
+    Ok(deliver(area, row_in_range(r), id, payload, sum))
 }
 
 // A payload of at most 8 bytes for a row that was found: too short, then with a wrong checksum, changes nothing.
 fn deliver(area: &mut [u8], r: RxNumber, id: u32, payload: &[u8], sum: u8) -> Responded
     requires { (r.0 < 256) × (length payload.now ≤ 8) × LongEnough area.old }
-    ensures answer { result ≡ row_answer area.old r.0 id payload.now sum }
+    ensures answer { Ok result ≡ row_answer area.old r.0 id payload.now sum }
     ensures bytes { area.new ≡ row_area area.old r.0 id payload.now sum }
 {
     let at = rx_fields_place(area, r);

@@ -6,7 +6,9 @@ use Prim.Native.Nat.{ℕ, zero, suc, ◌-◌, ◌≤◌, ◌<◌}
 use native.Mathlib.Nat.{sub-zero}
 use native.Mathlib.Omega.{arith}
 use lib.ListN.{length, length-append, get_or-append}
+use Rattle.std.specs.Prelude.{Option, Result}
 use Rattle.records.specs.declared.record.Entry.{Entry}
+use Rattle.answers.specs.declared.Refusal.{Refusal}
 use Rattle.answers.specs.declared.Taken.{Taken}
 use Rattle.sending.proofs.Longer.{Longer}
 use Rattle.model.specs.Plan.{said}
@@ -45,11 +47,11 @@ module _ (n : ℕ) (e : Entry) where
     unfolding takes_on after_in stepped
     passed t k h = record { leaves = rw t h.leaves; until = rw t h.until }
 
-    first : (x : Taken) → take_on n a c ≡ x ∷ [] → leaving x ≡ some e → Leaves a 0 (c ∷ cs)
+    first : (x : Result (Option Taken) Refusal) → take_on n a c ≡ x ∷ [] → leaving x ≡ some e → Leaves a 0 (c ∷ cs)
     unfolding takes_on
     first x t f = record { leaves = rw t (λ l. f); until = rw t (λ l. absurd (omega arith)) }
 
-    later : (x : Taken) → take_on n a c ≡ x ∷ [] → (k : ℕ) → Leaves (area_after a c) k cs → Leaves a (suc k) (c ∷ cs)
+    later : (x : Result (Option Taken) Refusal) → take_on n a c ≡ x ∷ [] → (k : ℕ) → Leaves (area_after a c) k cs → Leaves a (suc k) (c ∷ cs)
     unfolding takes_on after_in stepped
     later x t k h =
         let m = length (takes_on n (area_after a c) cs) in

@@ -6,13 +6,15 @@ use Prim.Native.Nat.{ℕ}
 use lib.Dec.{leb}
 use lib.ListN.{length}
 use borrow.Author.Tests.{leb-true}
+use Rattle.std.specs.Prelude.{Result}
 use Rattle.base.specs.Numbers.{Bytes}
 use Rattle.base.proofs.Picks.{cases}
 use Rattle.plan.specs.declared.verdict.Verdict.{Verdict}
 use Rattle.plan.specs.declared.verdict.Verdict.TheVariants as verdict
 use Rattle.plan.specs.Check.{check_plan}
 use Rattle.area.specs.Layout.{area_length}
-use Rattle.answers.specs.declared.Opened.{Opened}
+use Rattle.plan.specs.declared.verdict.PlanCounts.{PlanCounts}
+use Rattle.answers.specs.declared.RefusedPlan.{RefusedPlan}
 use Rattle.opening.specs.Opened.{opened_answer, opened_area}
 use Rattle.model.specs.Plan.{said}
 use Rattle.model.specs.State.{State}
@@ -52,7 +54,7 @@ after_opening :
     → OpenIf (opened_past (opened_answer v (length a)) plan past).plan (opened_area (opened_answer v (length a)) plan a)
 unfolding opened_answer opened_area opened_past
 after_opening past plan a o (verdict.Good n t r) e =
-    cases (λ (x : Opened). OpenIf (opened_past x plan past).plan (opened_area x plan a)) (leb area_length (length a)) _ _
+    cases (λ (x : Result PlanCounts RefusedPlan). OpenIf (opened_past x plan past).plan (opened_area x plan a)) (leb area_length (length a)) _ _
     (λ long bytes. record { state = begun (said plan); held = Held-opened plan a n t r e (leb-true _ _ long) bytes })
     (λ short. o)
 after_opening past plan a o (verdict.Refused reason number) e = o

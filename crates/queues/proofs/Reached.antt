@@ -5,6 +5,7 @@ use mathlib.Core.Option.{some}
 use Prim.Native.Nat.{ℕ, zero, suc, ◌<◌}
 use native.Mathlib.Omega.{arith}
 use lib.ListN.{length, get_or, drop, take as first_of}
+use Rattle.std.specs.Prelude.{Option, Result, Ok}
 use Rattle.base.specs.Numbers.{Bytes}
 use Rattle.base.specs.Pick.{pick}
 use Rattle.records.specs.Ids.{behind_id}
@@ -14,7 +15,7 @@ use Rattle.records.specs.Nodes.{frame, request, type_of, is_lin}
 use Rattle.plan.specs.Rows.{claims_from, row_of, rows_from, rows_of, tx_frames, tx_of, nodes_in, types_in}
 use Rattle.facts.specs.Good.{Each}
 use Rattle.facts.specs.PlanCases.{pumps}
-use Rattle.answers.specs.declared.Opened.TheVariants.{Open}
+use Rattle.answers.specs.declared.Refusal.{Refusal}
 use Rattle.answers.specs.declared.Taken.{Taken}
 use Rattle.tables.specs.Reads.{frames_on, rows_on, waiters_on}
 use Rattle.model.specs.Plan.{said}
@@ -52,14 +53,14 @@ replies_first g w zero cs = refl
 replies_first g w (suc k) [] = refl
 replies_first g w (suc k) (c ∷ cs) = ap (λ xs. reply_of g w c ∷ xs) (replies_first g (world_after g w c) k cs)
 
-taken_one : {x y : Taken} {p q : List ℕ} → answered (taken x p) ≡ answered (taken y q) → x ≡ y
+taken_one : {x y : Result (Option Taken) Refusal} {p q : List ℕ} → answered (taken x p) ≡ answered (taken y q) → x ≡ y
 taken_one e = cc
 
 model_answers : replies (the_model 32768) closed (first_of 7 poll_steps) ≡ first_of 7 poll_replies
 model_answers = replies_first (the_model 32768) closed 7 poll_steps ∙ ap (first_of 7) polling_answered
 
 module _ (a : List ℕ) (size : length a ≡ 32768) where
-  opens : reply_in a (opening pumps) ≡ opened (Open 2 2 1)
+  opens : reply_in a (opening pumps) ≡ opened (Ok (record { nodes = 2; tx = 2; rx = 1 }))
   unfolding replies after_in
   opens = (rw size at (as_the_model.openings a [] pumps closed)) ∙ ap (λ xs. get_or xs 0 nothing_waits) model_answers
 
@@ -86,7 +87,7 @@ module _ (a : List ℕ) (size : length a ≡ 32768) where
 
   was_open : (past_of before a).plan ≡ some pumps
   unfolding reply_in past_after_all past_after opened_past
-  was_open = let o : open_answer pumps a ≡ Open 2 2 1 = let e = opens in cc in rw o
+  was_open = let o : open_answer pumps a ≡ Ok (record { nodes = 2; tx = 2; rx = 1 }) = let e = opens in cc in rw o
 
   reached : Reached a
   unfolding at_once

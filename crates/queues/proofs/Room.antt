@@ -7,10 +7,12 @@ use Prim.Native.Nat.{ℕ, suc, ◌≤◌, ◌<◌}
 use native.Mathlib.Omega.{arith}
 use native.Mathlib.Decide.{dec_lt}
 use lib.ListN.{length, get_or}
+use Rattle.std.specs.Prelude.{Option, Some, Result, Ok}
 use Rattle.base.proofs.Apart.{differ}
 use Rattle.records.specs.declared.record.Entry.{Entry}
 use Rattle.records.specs.Nodes.{frame, request}
 use Rattle.area.specs.Queue.{entry_of, queue_of}
+use Rattle.answers.specs.declared.Refusal.{Refusal}
 use Rattle.answers.specs.declared.Taken.{Taken}
 use Rattle.answers.specs.declared.Taken.TheVariants.{Frame, Request}
 use Rattle.taking.specs.Taken.{taken_answer}
@@ -65,7 +67,7 @@ module _ {plan a : List ℕ} (o : IsOpen plan a) (n : ℕ) (l : n < 16) where
 
   -- ---- what a take tells of those that still wait
 
-  fewer : (x : Taken) → taken_answer a n ≡ x → leaving x ≢ none → still_waiting x < many can
+  fewer : (x : Result (Option Taken) Refusal) → taken_answer a n ≡ x → leaving x ≢ none → still_waiting x < many can
   unfolding leaving
   fewer x is some = go (dec_lt n (said plan).nodes)
     where
@@ -87,8 +89,8 @@ module _ {plan a : List ℕ} (o : IsOpen plan a) (n : ℕ) (l : n < 16) where
         can = can;
         among = among;
         few = few can;
-        after_frame = λ x is. fewer (Frame x) is (λ e. differ cc);
-        after_request = λ x is. fewer (Request x) is (λ e. differ cc);
+        after_frame = λ x is. fewer (Ok (Some (Frame x))) is (λ e. differ cc);
+        after_request = λ x is. fewer (Ok (Some (Request x))) is (λ e. differ cc);
         room = ring.room ∙ sym (many_are plan n can);
         within = ring.within;
         apart = ring.apart;

@@ -7,13 +7,15 @@ use Prim.Native.Nat.{ℕ, ◌≤◌, ◌<◌}
 use native.Mathlib.Decide.{ℕ_discrete}
 use lib.ListN.{length}
 use borrow.Author.Tests.{eq-eqb, ne_eqb}
+use Rattle.std.specs.Prelude.{Option, Some, None, Result, Ok, Err}
 use Rattle.base.proofs.Apart.{differ}
 use Rattle.base.proofs.Picks.{picks, passes}
 use Rattle.records.specs.declared.record.Entry.{Entry}
 use Rattle.records.specs.declared.record.Entry.TheVariants as entry
+use Rattle.answers.specs.declared.Refusal.{Refusal}
 use Rattle.answers.specs.declared.Refusal.TheVariants.{NoNode}
 use Rattle.answers.specs.declared.Taken.{Taken}
-use Rattle.answers.specs.declared.Taken.TheVariants.{Nothing, Frame, Request, Refused}
+use Rattle.answers.specs.declared.Taken.TheVariants.{Frame, Request}
 use Rattle.taking.specs.Taken.{taken_answer}
 use Rattle.sending.proofs.Longer.{Longer}
 use Rattle.model.specs.Plan.{said}
@@ -29,21 +31,21 @@ use Rattle.queues.proofs.Grows.{grows}
 use Rattle.queues.proofs.Opened.{IsOpen}
 
 -- how many still wait, by the answer of a take
-unfoldable pub still_waiting : Taken → ℕ
-still_waiting (Frame x) = x.waiting
-still_waiting (Request x) = x.waiting
-still_waiting Nothing = 0
-still_waiting (Refused why) = 0
+unfoldable pub still_waiting : Result (Option Taken) Refusal → ℕ
+still_waiting (Ok (Some (Frame x))) = x.waiting
+still_waiting (Ok (Some (Request x))) = x.waiting
+still_waiting (Ok None) = 0
+still_waiting (Err why) = 0
 
 -- the answer is of entry e, behind which these wait
-pub record Tells (x : Taken) (e : Entry) (rest : List Entry) : Type 0 where
+pub record Tells (x : Result (Option Taken) Refusal) (e : Entry) (rest : List Entry) : Type 0 where
   pub one : unrefused x ≡ x ∷ []
   pub leaves : leaving x ≡ some e
   pub waiting : still_waiting x ≡ length rest
 
 -- a take on node n: nobody waits, or the oldest leaves
 pub data Taking (n : ℕ) (a : List ℕ) : Type 0 where
-  nobody : taken_answer a n ≡ Nothing → waiting_on a n ≡ [] → waiting_on (area_after a (take n)) n ≡ [] → Taking n a
+  nobody : taken_answer a n ≡ Ok None → waiting_on a n ≡ [] → waiting_on (area_after a (take n)) n ≡ [] → Taking n a
   oldest : (e : Entry) (rest : List Entry) → Tells (taken_answer a n) e rest → waiting_on a n ≡ e ∷ rest → waiting_on (area_after a (take n)) n ≡ rest
       → Taking n a
 
@@ -65,11 +67,11 @@ module _ {plan a : List ℕ} (o : IsOpen plan a) (n : ℕ) where
   rules = (runs plan held.good).take state held.shape n
 
   -- the area answers as the model
-  answered : {x : Taken} {payload : List ℕ} → (running (said plan)).answer state (take n) ≡ taken x payload → taken_answer a n ≡ x
+  answered : {x : Result (Option Taken) Refusal} {payload : List ℕ} → (running (said plan)).answer state (take n) ≡ taken x payload → taken_answer a n ≡ x
   unfolding running answer_in
   answered e = let f = (follows held (take n)).answer ∙ e in cc
 
-  pub refused : (said plan).nodes ≤ n → taken_answer a n ≡ Refused NoNode
+  pub refused : (said plan).nodes ≤ n → taken_answer a n ≡ Err NoNode
   refused l = answered (rules.refused l).answer
 
   module _ (l : n < (said plan).nodes) where
@@ -81,7 +83,7 @@ module _ {plan a : List ℕ} (o : IsOpen plan a) (n : ℕ) where
     unfolding running
     queue_then c = (follows held c).held.shows.queues n l
 
-    leaves : (x : Taken) (e : Entry) (rest : List Entry) {payload : List ℕ} → queue_on state n ≡ e ∷ rest → Tells x e rest
+    leaves : (x : Result (Option Taken) Refusal) (e : Entry) (rest : List Entry) {payload : List ℕ} → queue_on state n ≡ e ∷ rest → Tells x e rest
         → Takes (running (said plan)) state n rest x payload → Taking n a
     leaves x e rest q tells t = oldest e rest (rw (answered t.answer) tells) (queue_now ∙ q) (queue_then (take n) ∙ t.leaves)
 

@@ -8,10 +8,10 @@ use Prim.Native.Nat.{ℕ, zero, suc, ◌<◌}
 use native.Mathlib.Omega.{arith}
 use native.Mathlib.Decide.{dec_lt}
 use lib.ListN.{length, get_or-eq_default}
+use Rattle.std.specs.Prelude.{None, Ok}
 use Rattle.base.proofs.Apart.{differ}
 use Rattle.records.specs.declared.record.Entry.{Entry}
 use Rattle.area.specs.Queue.{entry_of, queue_of}
-use Rattle.answers.specs.declared.Taken.TheVariants.{Nothing}
 use Rattle.taking.specs.Taken.{taken_answer}
 use Rattle.model.specs.Plan.{said}
 use Rattle.model.specs.Calls.{Call, take}
@@ -54,7 +54,7 @@ module _ {plan : List ℕ} (n : ℕ) (l : n < (said plan).nodes) where
         go (yes m) =
             let g = (in_turn n (entry_of (waiter a n j)) l calls a o j (nearer j k e i h)).leaves m in
             another j k e i h (cc)
-        go (no d) = let g = rw (get_or-eq_default (takes_on n a calls) Nothing {n = j} (omega arith)) at f in differ cc
+        go (no d) = let g = rw (get_or-eq_default (takes_on n a calls) (Ok None) {n = j} (omega arith)) at f in differ cc
 
     pub turns : (k : ℕ) (e : Entry) → Ahead a n k e → (calls : List Call) → InTurn a n k e calls
     turns k e h calls =

@@ -1,6 +1,6 @@
 -- "Show over any calls that a node's queue never holds more than the frames and requests which can be scheduled on it, and cut our room to that."
 -- (document 02, Ticket 14)
-use Rattle.std.specs.Prelude.{◌≡◌, ◌≢◌, List, map, ◌++◌, ℕ, ◌+◌, ◌≤◌, ◌<◌, length}
+use Rattle.std.specs.Prelude.{◌≡◌, ◌≢◌, List, map, ◌++◌, ℕ, ◌+◌, ◌≤◌, ◌<◌, length, Some, Ok}
 use Rattle.std.proofs.Math.Option.{some}
 use Rattle.base.specs.Numbers.{Bytes}
 use Rattle.records.specs.declared.record.Entry.{Entry}
@@ -49,8 +49,8 @@ pub record Fits (plan a : List ℕ) (n : ℕ) : Type 0 where
   pub among : (e : Entry) → In e (waiting_on a n) → In e (all can)
   pub few : length (waiting_on a n) ≤ many can
   -- in the caller's terms: a take tells of fewer that still wait
-  pub after_frame : (x : TakenFrame) → taken_answer a n ≡ Frame x → x.waiting < many can
-  pub after_request : (x : TakenRequest) → taken_answer a n ≡ Request x → x.waiting < many can
+  pub after_frame : (x : TakenFrame) → taken_answer a n ≡ Ok (Some (Frame x)) → x.waiting < many can
+  pub after_request : (x : TakenRequest) → taken_answer a n ≡ Ok (Some (Request x)) → x.waiting < many can
   -- "cut our room to that": its ring has an entry for each of them and no more, its own, among the 512 that there are
   pub room : (ends_of a n).room ≡ many can
   pub within : (ends_of a n).start + (ends_of a n).room ≤ 512

@@ -1,13 +1,14 @@
 -- "a frame with n ahead of it leaves at the (n + 1)-th unrefused take on its node, whatever else but an opening is called between" (document 02,
 -- Ticket 14), as a caller sees it: from the answers of the takes.
-use Rattle.std.specs.Prelude.{◌≡◌, ◌≢◌, List, [], ◌∷◌, ◌++◌, map, ℕ, zero, suc, ◌-◌, ◌≤◌, ◌<◌, eqb, length, get_or}
+use Rattle.std.specs.Prelude.{◌≡◌, ◌≢◌, List, [], ◌∷◌, ◌++◌, map, ℕ, zero, suc, ◌-◌, ◌≤◌, ◌<◌, eqb, length, get_or, Option as StdOption, Some, None, Result, Ok, Err}
 use Rattle.std.proofs.Math.Option.{Option, none, some}
 use Rattle.base.specs.Pick.{pick}
 use Rattle.base.specs.Numbers.{Bytes}
 use Rattle.records.specs.declared.record.Entry.{Entry}
 use Rattle.records.specs.Nodes.{frame, request}
+use Rattle.answers.specs.declared.Refusal.{Refusal}
 use Rattle.answers.specs.declared.Taken.{Taken}
-use Rattle.answers.specs.declared.Taken.TheVariants.{Nothing, Frame, Request, Refused}
+use Rattle.answers.specs.declared.Taken.TheVariants.{Frame, Request}
 use Rattle.taking.specs.Taken.{taken_answer}
 use Rattle.model.specs.Plan.{said}
 use Rattle.model.specs.Calls.{Call, reception, response, no_response, tick, take, fullness, Step, call}
@@ -16,21 +17,21 @@ use Rattle.history.specs.Past.{past_of}
 use Rattle.refines.specs.Shows.{waiting_on}
 
 -- what leaves at a take, by its answer
-unfoldable pub leaving : Taken → Option Entry
-leaving (Frame x) = some (frame x.tx.0)
-leaving (Request x) = some (request x.rx.0)
-leaving Nothing = none
-leaving (Refused why) = none
+unfoldable pub leaving : Result (StdOption Taken) Refusal → Option Entry
+leaving (Ok (Some (Frame x))) = some (frame x.tx.0)
+leaving (Ok (Some (Request x))) = some (request x.rx.0)
+leaving (Ok None) = none
+leaving (Err why) = none
 
 -- "unrefused": "none" is an answer too
-unfoldable pub unrefused : Taken → List Taken
-unrefused (Frame x) = Frame x ∷ []
-unrefused (Request x) = Request x ∷ []
-unrefused Nothing = Nothing ∷ []
-unrefused (Refused why) = []
+unfoldable pub unrefused : Result (StdOption Taken) Refusal → List (Result (StdOption Taken) Refusal)
+unrefused (Ok (Some (Frame x))) = Ok (Some (Frame x)) ∷ []
+unrefused (Ok (Some (Request x))) = Ok (Some (Request x)) ∷ []
+unrefused (Ok None) = Ok None ∷ []
+unrefused (Err why) = []
 
 -- the answer of a call that is an unrefused take on node n
-unfoldable pub take_on : ℕ → List ℕ → Call → List Taken
+unfoldable pub take_on : ℕ → List ℕ → Call → List (Result (StdOption Taken) Refusal)
 take_on n a (reception m id payload) = []
 take_on n a (response m id payload sum) = []
 take_on n a (no_response m id) = []
@@ -39,13 +40,13 @@ take_on n a (take m) = pick (eqb m n) (unrefused (taken_answer a m)) []
 take_on n a (fullness t) = []
 
 -- the answers of the unrefused takes on node n, in their order, among some calls on an area
-unfoldable pub takes_on : ℕ → List ℕ → List Call → List Taken
+unfoldable pub takes_on : ℕ → List ℕ → List Call → List (Result (StdOption Taken) Refusal)
 takes_on n a [] = []
 takes_on n a (c ∷ cs) = take_on n a c ++ takes_on n (area_after a c) cs
 
 -- what leaves at the one of them that has k before it
 abbrev pub leaving_at : ℕ → ℕ → List ℕ → List Call → Option Entry
-leaving_at k n a calls = leaving (get_or (takes_on n a calls) k Nothing)
+leaving_at k n a calls = leaving (get_or (takes_on n a calls) k (Ok None))
 
 -- "a frame with n ahead of it": here k, on node n
 pub record Ahead (a : List ℕ) (n k : ℕ) (e : Entry) : Type 0 where

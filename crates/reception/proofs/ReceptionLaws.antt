@@ -8,6 +8,7 @@ use native.Mathlib.Omega.{arith}
 use lib.Dec.{leb, ltb}
 use lib.ListN.{length}
 use borrow.Author.Tests.{le-ltb, ltb-true, ltb-false, leb-true}
+use Rattle.std.specs.Prelude.{Result, Ok, Err}
 use Rattle.base.proofs.Apart.{differ}
 use Rattle.base.specs.Pick.{pick}
 use Rattle.base.proofs.Picks.{cases}
@@ -25,7 +26,7 @@ use Rattle.area.proofs.NarrowLaws.{narrow_claims}
 use Rattle.answers.specs.declared.Refusal.{Refusal}
 use Rattle.answers.specs.declared.Refusal.TheVariants.{NotOpen, NoNode, LongPayload, WrongCall}
 use Rattle.answers.specs.declared.Received.{Received}
-use Rattle.answers.specs.declared.Received.TheVariants.{Accepted, NoRow, TooShort, Refused}
+use Rattle.answers.specs.declared.Received.TheVariants.{Accepted, NoRow, TooShort}
 use Rattle.reception.specs.declared.lookup.Found.{Found}
 use Rattle.reception.specs.declared.lookup.Found.TheVariants.{At, Nothing}
 use Rattle.reception.specs.Lookup.{looked_up}
@@ -36,7 +37,7 @@ use Rattle.reception.proofs.Outcomes.{goes_on}
 
 -- what a test chooses for the answer and for the area
 pairs :
-    (P : Received → List ℕ → Type 0) (t : Bool) {x y : Received} {b c : List ℕ} → (t ≡ true → P x b) → (t ≡ false → P y c)
+    (P : Result Received Refusal → List ℕ → Type 0) (t : Bool) {x y : Result Received Refusal} {b c : List ℕ} → (t ≡ true → P x b) → (t ≡ false → P y c)
     → P (pick t x y) (pick t b c)
 unfolding pick
 pairs P true p q = p refl
@@ -54,8 +55,8 @@ module _ (a : List ℕ) (n : ℕ) (id : Id) (payload : List ℕ) where
 
   -- what holds of every answer but an acceptance with the area as it was, and of an acceptance with what it does, holds of a reception
   pub by_answer :
-      (P : Received → List ℕ → Type 0) → ((x : Received) → (x ≡ Accepted → ⊥) → P x a)
-      → ((r : RxNumber) → For r → P Accepted (accepted_area a r.0 payload))
+      (P : Result Received Refusal → List ℕ → Type 0) → ((x : Result Received Refusal) → (x ≡ Ok Accepted → ⊥) → P x a)
+      → ((r : RxNumber) → For r → P (Ok Accepted) (accepted_area a r.0 payload))
       → P (received_answer a n id payload) (received_area a n id payload)
   unfolding received_answer received_area
   by_answer P other taken =
@@ -68,39 +69,39 @@ module _ (a : List ℕ) (n : ℕ) (id : Id) (payload : List ℕ) where
       (λ k. refuse NoNode))
       (λ o. refuse NotOpen)
     where
-      refuse : (why : Refusal) → P (Refused why) a
-      refuse why = other (Refused why) (λ e. differ cc)
+      refuse : (why : Refusal) → P (Err why) a
+      refuse why = other (Err why) (λ e. differ cc)
 
       go : marked a ≡ true → n < node_count a → is_lin (type_on a n) ≡ false → length payload ≤ 8 → (f : Found) → looked_up a n id ≡ f
           → P (found_answer a f payload) (found_area a f payload)
-      go o k c s (Nothing place) e = unfold found_answer found_area in other (NoRow place) (λ w. differ cc)
+      go o k c s (Nothing place) e = unfold found_answer found_area in other (Ok (NoRow place)) (λ w. differ cc)
       go o k c s (At r) e = unfold found_answer found_area in
           pairs P (ltb (length payload) (rx_frame a r.0).size)
-          (λ t. other TooShort (λ w. differ cc))
+          (λ t. other (Ok TooShort) (λ w. differ cc))
           (λ t. taken r (record { opened = o; known = k; can = c; short = s; found = e; whole = ltb-false (length payload) (rx_frame a r.0).size t }))
 
   -- an unaccepted reception leaves every byte
-  pub stays : (received_answer a n id payload ≡ Accepted → ⊥) → received_area a n id payload ≡ a
-  stays = by_answer (λ x b. (x ≡ Accepted → ⊥) → b ≡ a) (λ x d d'. refl) (λ r f d. absurd (d refl))
+  pub stays : (received_answer a n id payload ≡ Ok Accepted → ⊥) → received_area a n id payload ≡ a
+  stays = by_answer (λ x b. (x ≡ Ok Accepted → ⊥) → b ≡ a) (λ x d d'. refl) (λ r f d. absurd (d refl))
 
   -- and an accepted one is for a row
-  pub accepts : (r : RxNumber) → For r → (Accepted ≡ received_answer a n id payload) × (accepted_area a r.0 payload ≡ received_area a n id payload)
+  pub accepts : (r : RxNumber) → For r → (Ok Accepted ≡ received_answer a n id payload) × (accepted_area a r.0 payload ≡ received_area a n id payload)
   unfolding found_answer found_area pick
   accepts r f =
       let t = le-ltb (length payload) (rx_frame a r.0).size f.whole in
-      goes_on a n id payload f.opened f.known f.can (At r) Accepted (accepted_area a r.0 payload) f.short (sym f.found) (rw t) (rw t)
+      goes_on a n id payload f.opened f.known f.can (At r) (Ok Accepted) (accepted_area a r.0 payload) f.short (sym f.found) (rw t) (rw t)
 
   -- answer 1 is what the lookup says that finds nothing
   abbrev pub Missed : ℕ → Type 0
   Missed place = (n < node_count a) × (looked_up a n id ≡ Nothing place)
 
-  pub missed : (place : ℕ) → received_answer a n id payload ≡ NoRow place → Missed place
+  pub missed : (place : ℕ) → received_answer a n id payload ≡ Ok (NoRow place) → Missed place
   unfolding received_answer
   missed place =
-      cases (λ x. x ≡ NoRow place → Missed place) (marked a) _ _
-      (λ o. cases (λ x. x ≡ NoRow place → Missed place) (ltb n (node_count a)) _ _
-      (λ k. cases (λ x. x ≡ NoRow place → Missed place) (is_lin (type_on a n)) _ _ (λ c e. no cc)
-      (λ c. cases (λ x. x ≡ NoRow place → Missed place) (leb (length payload) 8) _ _
+      cases (λ x. x ≡ Ok (NoRow place) → Missed place) (marked a) _ _
+      (λ o. cases (λ x. x ≡ Ok (NoRow place) → Missed place) (ltb n (node_count a)) _ _
+      (λ k. cases (λ x. x ≡ Ok (NoRow place) → Missed place) (is_lin (type_on a n)) _ _ (λ c e. no cc)
+      (λ c. cases (λ x. x ≡ Ok (NoRow place) → Missed place) (leb (length payload) 8) _ _
       (λ s. go (ltb-true n (node_count a) k) (looked_up a n id) refl)
       (λ s e. no cc)))
       (λ k e. no cc))
@@ -109,10 +110,10 @@ module _ (a : List ℕ) (n : ℕ) (id : Id) (payload : List ℕ) where
       no : ◌≡◌ {A = ℕ} 0 1 → Missed place
       no z = absurd (omega arith)
 
-      go : n < node_count a → (f : Found) → looked_up a n id ≡ f → found_answer a f payload ≡ NoRow place → Missed place
+      go : n < node_count a → (f : Found) → looked_up a n id ≡ f → found_answer a f payload ≡ Ok (NoRow place) → Missed place
       go k (Nothing q) e = unfold found_answer in λ w. let same : q ≡ place = cc in (k, e ∙ ap Nothing same)
       go k (At r) e = unfold found_answer in
-          cases (λ x. x ≡ NoRow place → Missed place) (ltb (length payload) (rx_frame a r.0).size) _ _ (λ t w. no cc) (λ t w. no cc)
+          cases (λ x. x ≡ Ok (NoRow place) → Missed place) (ltb (length payload) (rx_frame a r.0).size) _ _ (λ t w. no cc) (λ t w. no cc)
 
 -- ---- what is kept
 

@@ -1,63 +1,49 @@
 // The reception of a frame: the call, and the acceptance. The walk that follows it is in `walk`.
 ghost use Rattle.std.specs.Prelude.{◌≡◌, ◌≤◌, ◌<◌, length};
 ghost use Rattle.area.specs.Layout.{last_place, row_bound, LongEnough, rx_fields_place};
-ghost use Rattle.reception.specs.declared.lookup.Found.TheVariants.{At};
-ghost use Rattle.reception.specs.Reception.{restarted, accepted_area, found_answer, found_area, received_answer, received_area};
+ghost use Rattle.reception.specs.Reception.{restarted, accepted_area, received_answer, received_area};
 
 use crate::lookup::{Found, look_up};
 use crate::walk::walk;
 use answers::{Received, Refusal};
 use area::claims::write_failure;
 use area::frames::{rx_fields_place, rx_long, rx_size};
-use area::header::{has_node, is_marked, node_type};
+use area::guards::{check_node, check_open};
+use area::header::node_type;
 use area::layout::{ORDER_BYTE, long, row_in_range, rx_reload, rx_timer};
 use records::decode::RX_FIELDS;
 use records::record::{Id, NodeType, RxNumber};
 
 // A frame that a node received. One with no matching row is not processed further: the answer says where such a row would belong.
-pub fn receive(area: &mut [u8], node: usize, id: Id, payload: &[u8]) -> Received
+pub fn receive(area: &mut [u8], node: usize, id: Id, payload: &[u8]) -> Result<Received, Refusal>
     ensures answer { result ≡ received_answer area.old node id payload.now }
     ensures bytes { area.new ≡ received_area area.old node id payload.now }
 {
-    let open = is_marked(area);
-    if !open {
-        return Received::Refused(Refusal::NotOpen);
-    }
-    let there = has_node(area, node);
-    if !there {
-        return Received::Refused(Refusal::NoNode);
-    }
+    check_open(area)?;
+    check_node(area, node)?;
     if let NodeType::Lin = node_type(area, node) {
-        return Received::Refused(Refusal::WrongCall);
+        return Err(Refusal::WrongCall);
     }
     if 8 < payload.len() {
-        return Received::Refused(Refusal::LongPayload);
+        return Err(Refusal::LongPayload);
     }
     let found = look_up(area, node, id);
     let Found::At(r) = found else {
-        return Received::NoRow {
+        return Ok(Received::NoRow {
             place: found.place(),
-        };
+        });
     };
-    deliver(area, r, payload)
-}
-
-// A payload of at most 8 bytes for a row that was found.
-fn deliver(area: &mut [u8], r: RxNumber, payload: &[u8]) -> Received
-    requires { (r.0 < row_bound) × (length payload.now ≤ 8) × LongEnough area.old }
-    ensures answer { result ≡ found_answer area.old (At r) payload.now }
-    ensures bytes { area.new ≡ found_area area.old (At r) payload.now }
-{
     let at = rx_fields_place(area, r);
     if payload.len() < rx_size(area, at) {
-        return Received::TooShort;
+        return Ok(Received::TooShort);
     }
     accept(area, r, at, payload);
-    Received::Accepted
+    Ok(Received::Accepted)
 }
 
 // An accepted payload of Rx frame `r`, whose fields begin at `at`: the row starts again, the failure bit becomes 0, and then the payload goes along
-// the frame's signals.
+// the frame's signals. Inline, since the compiler takes what follows several `?` for rare.
+#[inline(always)]
 fn accept(area: &mut [u8], r: RxNumber, at: usize, payload: &[u8])
     requires { (r.0 < row_bound) × (at ≡ rx_fields_place area.old r.0) × (at ≤ last_place) × (length payload.now ≤ 8) × LongEnough area.old }
     ensures { area.new ≡ accepted_area area.old r.0 payload.now }

@@ -3,12 +3,12 @@ use mathlib.Core.Path.{◌≡◌, refl, ap, ◌∙◌}
 use mathlib.Core.List.{List, [], ◌∷◌, ◌++◌}
 use Prim.Native.Nat.{ℕ}
 use lib.ListN.{length}
+use Rattle.std.specs.Prelude.{Ok, Err}
 use Rattle.base.proofs.Apart.{differ}
 use Rattle.base.specs.Numbers.{Bytes}
 use Rattle.plan.specs.Check.{check_plan}
 use Rattle.facts.specs.Good.{Each}
 use Rattle.answers.specs.declared.Refusal.{Refusal}
-use Rattle.answers.specs.declared.Opened.TheVariants.{Open, Refused}
 use Rattle.opening.specs.Opened.{opened_answer}
 use Rattle.model.specs.Calls.{World, closed, Step, opening, call, Reply, opened, answered, the_model, reply_of, world_after, replies, after}
 use Rattle.model.specs.Rules.{OfBytes}
@@ -68,17 +68,17 @@ module _ (room : ℕ) (a : List ℕ) (e : length a ≡ room) (plan : List ℕ) w
   unfolding reply_in reply_of the_model
   answers w = rw (← e) (ap opened (opening_answer (length a) (check_plan plan)))
 
-  not_refused : {n t r : ℕ} → reply_in a (opening plan) ≡ opened (Open n t r) → (why : Refusal) (number : ℕ)
-      → opened_answer (check_plan plan) (length a) ≡ Refused why number → ⊥
+  not_refused : {n t r : ℕ} → reply_in a (opening plan) ≡ opened (Ok (record { nodes = n; tx = t; rx = r })) → (why : Refusal) (number : ℕ)
+      → opened_answer (check_plan plan) (length a) ≡ Err (record { why = why; record_number = number }) → ⊥
   unfolding reply_in
   not_refused f why number g = differ cc
 
-  opens : {n t r : ℕ} → reply_in a (opening plan) ≡ opened (Open n t r) → Bytes plan
+  opens : {n t r : ℕ} → reply_in a (opening plan) ≡ opened (Ok (record { nodes = n; tx = t; rx = r })) → Bytes plan
       → Agrees (stepped a (opening plan)) (world_after (the_model room) closed (opening plan))
   unfolding stepped world_after the_model
   opens f b = rw (← e) (opening_agrees a plan b closed (λ why number g. absurd (not_refused f why number g)))
 
-  pub since : {n t r : ℕ} → reply_in a (opening plan) ≡ opened (Open n t r) → Bytes plan → (cs : List Step) → Each OfBytes cs
+  pub since : {n t r : ℕ} → reply_in a (opening plan) ≡ opened (Ok (record { nodes = n; tx = t; rx = r })) → Bytes plan → (cs : List Step) → Each OfBytes cs
       → (replies_in a (opening plan ∷ cs) ≡ replies (the_model room) closed (opening plan ∷ cs))
       × Agrees (after_in a (opening plan ∷ cs)) (after (the_model room) closed (opening plan ∷ cs))
   unfolding replies_in after_in replies after

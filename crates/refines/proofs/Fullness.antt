@@ -6,6 +6,7 @@ use native.Mathlib.Omega.{arith}
 use lib.Dec.{ltb}
 use lib.ListN.{length, get_or}
 use borrow.Author.Tests.{ltb-true}
+use Rattle.std.specs.Prelude.{Ok}
 use Rattle.base.specs.Pick.{pick}
 use Rattle.base.proofs.Picks.{picks}
 use Rattle.base.proofs.Ranges.{at_most_is}
@@ -23,7 +24,6 @@ use Rattle.facts.proofs.Bounds.{good_bounds}
 use Rattle.facts.proofs.FactsGood.{facts_good}
 use Rattle.facts.proofs.Whole.{zeros, zeros-length, nobody, whole_claims}
 use Rattle.area.specs.Layout.{owned_bits}
-use Rattle.answers.specs.declared.Fullness.TheVariants.{Owned}
 use Rattle.taking.specs.Taken.{fullness_answer}
 use Rattle.model.specs.Plan.{said}
 use Rattle.model.specs.State.{State}
@@ -65,7 +65,7 @@ module _ {plan a : List ℕ} {s : State} (h : Held plan a s) where
   unfolding fullness_answer model.fullness_of
   answered t =
       picks _ _ _ h.reads.header.mark
-      ∙ chosen (λ x y. x ≡ y) _ _ (ap (ltb t) h.reads.header.tx) (λ k. ap Owned (stored t (ltb-true t _ k))) (λ k. refl)
+      ∙ chosen (λ x y. x ≡ y) _ _ (ap (ltb t) h.reads.header.tx) (λ k. ap Ok (stored t (ltb-true t _ k))) (λ k. refl)
 
   pub fullness_follows : (t : ℕ) → Follows plan a s (calls.fullness t)
   unfolding answer_in area_after calls.answer_of calls.next_of

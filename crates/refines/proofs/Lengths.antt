@@ -3,15 +3,16 @@ use mathlib.Core.Path.{◌≡◌, refl, ◌∙◌}
 use mathlib.Core.List.{List, [], ◌∷◌}
 use Prim.Native.Nat.{ℕ, ◌%◌}
 use lib.ListN.{length, length-set}
+use Rattle.std.specs.Prelude.{Result, Ok, Err}
 use Rattle.base.proofs.Picks.{both}
 use Rattle.records.specs.declared.record.Id.{Id}
 use Rattle.plan.specs.Rows.{Claim}
 use Rattle.area.specs.Layout.{order, claims}
 use Rattle.area.specs.Claims.{RxEvent, accepted, expired, all_done}
 use Rattle.area.proofs.Frame.{Same, Each, Off, Same-all_done, Same-dequeued}
-use Rattle.answers.specs.declared.Opened.{Opened}
-use Rattle.answers.specs.declared.Opened.TheVariants.{Open, Refused}
-use Rattle.answers.specs.declared.Ticked.{Ticked}
+use Rattle.plan.specs.declared.verdict.PlanCounts.{PlanCounts}
+use Rattle.answers.specs.declared.Refusal.{Refusal}
+use Rattle.answers.specs.declared.RefusedPlan.{RefusedPlan}
 use Rattle.opening.specs.Opened.{opened_area}
 use Rattle.opening.proofs.OpenedLaws.{opened-length}
 use Rattle.reception.specs.Reception.{restarted, accepted_area, received_area}
@@ -37,10 +38,10 @@ offs (c ∷ cs) = (record { bits = λ k l x. x; wait = λ x. x; timer = λ x. x 
 Sized-done : (o : ℕ) (e : RxEvent) (cs : List Claim) (a : List ℕ) → Sized a (all_done o e cs a)
 Sized-done o e cs a = Same-all_done (λ n h j l m x. x) (λ j l m x. x) o e cs a (offs cs)
 
-pub opened_sized : (x : Opened) (plan a : List ℕ) → length (opened_area x plan a) ≡ length a
+pub opened_sized : (x : Result PlanCounts RefusedPlan) (plan a : List ℕ) → length (opened_area x plan a) ≡ length a
 unfolding opened_area
-opened_sized (Open nodes tx rx) plan a = opened-length plan a
-opened_sized (Refused why number) plan a = refl
+opened_sized (Ok counts) plan a = opened-length plan a
+opened_sized (Err refused) plan a = refl
 
 restarted_sized : (a : List ℕ) (r : ℕ) → length (restarted a r) ≡ length a
 unfolding restarted
@@ -78,7 +79,7 @@ silent_sized : (a : List ℕ) (n id : ℕ) → length (silent_area a n id) ≡ l
 unfolding silent_area
 silent_sized a n id = let P : List ℕ → Type 0 = λ b. length b ≡ length a in both P _ _ _ (both P _ _ _ (silenced_sized a _) refl) refl
 
-ticked_sized : (x : Ticked) (a : List ℕ) → length (ticked_area x a) ≡ length a
+ticked_sized : (x : Result (Unit {0}) Refusal) (a : List ℕ) → length (ticked_area x a) ≡ length a
 ticked_sized x a = by_tick (λ b. length b ≡ length a) x a (length-ticked a) refl
 
 taken_sized : (a : List ℕ) (n : ℕ) → length (taken_area a n) ≡ length a

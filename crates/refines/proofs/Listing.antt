@@ -7,13 +7,13 @@ use native.Mathlib.Omega.{arith}
 use lib.Dec.{ltb}
 use lib.ListN.{get_or, drop}
 use borrow.Author.Tests.{ltb-true}
+use Rattle.std.specs.Prelude.{Ok}
 use Rattle.base.specs.Numbers.{Bytes}
 use Rattle.base.specs.Pick.{pick}
 use Rattle.base.proofs.Picks.{cases}
 use Rattle.plan.specs.Shortest.{shortest_area}
 use Rattle.facts.specs.Good.{Each}
 use Rattle.facts.specs.PlanCases.{listing}
-use Rattle.answers.specs.declared.Opened.TheVariants.{Open}
 use Rattle.model.specs.Calls.{closed, opening, Reply, opened, the_model, reply_of, replies}
 use Rattle.model.specs.Rules.{OfBytes}
 use Rattle.model.specs.Listing.{steps}
@@ -48,9 +48,9 @@ head_of : List Reply → Reply → Reply
 head_of [] d = d
 head_of (x ∷ xs) d = x
 
-opens : reply_of (the_model shortest_area) closed (opening listing) ≡ opened (Open 1 1 1)
+opens : reply_of (the_model shortest_area) closed (opening listing) ≡ opened (Ok (record { nodes = 1; tx = 1; rx = 1 }))
 unfolding replies head_of
-opens = ap (λ xs. head_of xs (opened (Open 1 1 1))) listing_answered
+opens = ap (λ xs. head_of xs (opened (Ok (record { nodes = 1; tx = 1; rx = 1 })))) listing_answered
 
 calls_bytes : Each OfBytes (drop 1 steps)
 unfolding Each OfBytes
@@ -59,6 +59,6 @@ calls_bytes = (tt, (tt, (tt, (tt, (tt, (tt, (tt, (tt, (tt, (tt, (tt, (tt, tt))))
 pub listing_on_bytes : ListingOnBytes
 unfolding after_in replies_in
 listing_on_bytes a e =
-    let f : reply_in a (opening listing) ≡ opened (Open 1 1 1) = (rw e at (as_the_model.openings a [] listing closed)) ∙ opens in
+    let f : reply_in a (opening listing) ≡ opened (Ok (record { nodes = 1; tx = 1; rx = 1 })) = (rw e at (as_the_model.openings a [] listing closed)) ∙ opens in
     let x = (as_the_model.since a [] listing 1 1 1 f listing_bytes (drop 1 steps) calls_bytes).replies in
     (rw e at x) ∙ listing_answered

@@ -5,11 +5,12 @@ use mathlib.Core.List.{List, [], ◌∷◌}
 use Prim.Native.Nat.{ℕ, ◌<◌}
 use native.Mathlib.Omega.{arith}
 use lib.ListN.{length, get_or}
+use Rattle.std.specs.Prelude.{Result, Ok, Err}
 use Rattle.records.specs.declared.record.Entry.{Entry}
 use Rattle.plan.specs.Check.{check_plan}
 use Rattle.area.specs.Queue.{entry_of, queue_of}
-use Rattle.answers.specs.declared.Opened.{Opened}
-use Rattle.answers.specs.declared.Opened.TheVariants.{Open, Refused}
+use Rattle.plan.specs.declared.verdict.PlanCounts.{PlanCounts}
+use Rattle.answers.specs.declared.RefusedPlan.{RefusedPlan}
 use Rattle.opening.specs.Opened.{opened_answer}
 use Rattle.sending.proofs.Entries.{entry_one}
 use Rattle.model.specs.Opening.{open_answer}
@@ -25,10 +26,10 @@ unfoldable Holds : World → Type 0
 Holds closed = ⊥
 Holds (holding plan s) = Unit {0}
 
-opened_holds : (x : Opened) (w : World) (plan : List ℕ) → Holds w → Holds (open_next x w plan)
+opened_holds : (x : Result PlanCounts RefusedPlan) (w : World) (plan : List ℕ) → Holds w → Holds (open_next x w plan)
 unfolding open_next Holds
-opened_holds (Open n t r) w plan h = tt
-opened_holds (Refused why number) w plan h = h
+opened_holds (Ok counts) w plan h = tt
+opened_holds (Err refused) w plan h = h
 
 call_holds : (w : World) (c : _) → Holds w → Holds (next_from w c)
 unfolding next_from Holds
@@ -41,12 +42,12 @@ all_hold room w [] h = h
 all_hold room w (opening plan ∷ cs) h = all_hold room (open_next (open_answer room (check_plan plan)) w plan) cs (opened_holds _ w plan h)
 all_hold room w (call c ∷ cs) h = all_hold room (next_from w c) cs (call_holds w c h)
 
-begins : (a plan : List ℕ) (n t r : ℕ) → reply_in a (opening plan) ≡ opened (Open n t r)
+begins : (a plan : List ℕ) (n t r : ℕ) → reply_in a (opening plan) ≡ opened (Ok (record { nodes = n; tx = t; rx = r }))
     → Holds (world_after (the_model (length a)) closed (opening plan))
 unfolding reply_in world_after the_model open_next Holds
 begins a plan n t r f =
-    let is : opened_answer (check_plan plan) (length a) ≡ Open n t r = cc in
-    let told : open_answer (length a) (check_plan plan) ≡ Open n t r = sym (opening_answer (length a) (check_plan plan)) ∙ is in
+    let is : opened_answer (check_plan plan) (length a) ≡ Ok (record { nodes = n; tx = t; rx = r }) = cc in
+    let told : open_answer (length a) (check_plan plan) ≡ Ok (record { nodes = n; tx = t; rx = r }) = sym (opening_answer (length a) (check_plan plan)) ∙ is in
     rw told tt
 
 once : (a : List ℕ) (w : World) → Holds w → Agrees a w → (m : ℕ) → m < 16 → (i j : ℕ) → i < j → j < length (waiting_on a m) → (e : Entry)

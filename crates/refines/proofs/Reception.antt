@@ -6,6 +6,7 @@ use native.Mathlib.Omega.{arith}
 use lib.Dec.{leb, ltb}
 use lib.ListN.{length}
 use borrow.Author.Tests.{ltb-true}
+use Rattle.std.specs.Prelude.{Ok}
 use Rattle.base.proofs.Apart.{differ}
 use Rattle.base.proofs.Picks.{picks}
 use Rattle.records.specs.declared.record.Id.{Id}
@@ -83,7 +84,7 @@ module _ {plan a : List ℕ} {s : State} (lawful : Lawful (said plan)) (h : Held
       (λ k. chosen (λ x y. x ≡ y) _ _ (lin_is h n (ltb-true n _ k)) (λ c. refl)
       (λ c. chosen (λ x y. x ≡ y) (leb (length payload) 8) _ refl
       (λ m. by_lookup n id (ltb-true n _ k) (λ f g. found_answer a f payload ≡ model.found_answer (said plan) n id g payload)
-      (λ place e. ap NoRow e)
+      (λ place e. ap (λ n. Ok (NoRow n)) e)
       (λ r l. chosen (λ x y. x ≡ y) _ _ (size_is r l payload) (λ e. refl) (λ e. refl)))
       (λ m. refl)))
       (λ k. refl)

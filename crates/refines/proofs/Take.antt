@@ -9,6 +9,7 @@ use lib.Dec.{ltb}
 use lib.ListN.{length, get_or, set, take, drop, length-drop}
 use lib.Seq.{get_or-set_same, get_or-set_other, ext_get_or, length-take-le, get_or-take, get_or-drop}
 use borrow.Author.Tests.{ltb-true, le-leb}
+use Rattle.std.specs.Prelude.{Some, Ok, Err}
 use Rattle.base.specs.Pick.{pick}
 use Rattle.base.proofs.Picks.{picks, passes}
 use Rattle.records.specs.declared.record.Entry.{Entry}
@@ -17,7 +18,6 @@ use Rattle.records.specs.Nodes.{frame, request}
 use Rattle.plan.specs.Rows.{tx_of, rows_of, nodes_in}
 use Rattle.area.specs.Layout.{counter_byte, area_length, payloads_start, requests_start, LongEnough, payload, node_count, in_width}
 use Rattle.area.specs.Queue.{entry_of, queue_of}
-use Rattle.answers.specs.declared.Taken.TheVariants as handed
 use Rattle.answers.specs.declared.Refusal.TheVariants.{NoNode}
 use Rattle.taking.specs.Taken.{taken_answer, taken_area, taken_payload, kept_part}
 use Rattle.tables.specs.Reads.{planned_tx}
@@ -103,12 +103,12 @@ module _ {plan a : List ℕ} {s : State} (h : Held plan a s) (n : ℕ) (l : n < 
 
   -- the answers, of a frame and of a request
   frame_answered : (t : ℕ) (rest : List ℕ) → queue_of a n ≡ t ∷ rest → t < length (tx_of plan)
-      → taken_answer a n ≡ model.entry_answer (said plan) s n (frame t) (length (mapped entry_of rest))
+      → taken_answer a n ≡ Ok (Some (model.entry_answer (said plan) s n (frame t) (length (mapped entry_of rest))))
   unfolding model.entry_answer model.framing_of model.handed
   frame_answered t rest e m = law.frame t rest e m ∙ rw (kept_part_is h t m, mapped-length entry_of rest)
 
   request_answered : (r : ℕ) (rest : List ℕ) → queue_of a n ≡ (requests_start + r) ∷ rest → r < length (rows_of plan)
-      → taken_answer a n ≡ model.entry_answer (said plan) s n (request r) (length (mapped entry_of rest))
+      → taken_answer a n ≡ Ok (Some (model.entry_answer (said plan) s n (request r) (length (mapped entry_of rest))))
   unfolding model.entry_answer
   request_answered r rest e m = law.request r rest e m ∙ rw (mapped-length entry_of rest)
 
@@ -124,7 +124,7 @@ module _ {plan a : List ℕ} {s : State} (h : Held plan a s) (n : ℕ) (l : n < 
   request_handed r rest e m = rw (law.request r rest e m)
 
 module _ {plan a : List ℕ} {s : State} (h : Held plan a s) where
-  refused_answer : (n : ℕ) → ltb n (node_count a) ≡ false → taken_answer a n ≡ handed.Refused NoNode
+  refused_answer : (n : ℕ) → ltb n (node_count a) ≡ false → taken_answer a n ≡ Err NoNode
   unfolding taken_answer
   refused_answer n k = picks _ _ _ h.reads.header.mark ∙ passes _ _ _ k
 
@@ -139,7 +139,7 @@ module _ {plan a : List ℕ} {s : State} (h : Held plan a s) where
     where
       -- what leaves is entry x of the model
       leaves : (k : ltb n (nodes_in (records plan)) ≡ true) (i : ℕ) (rest : List ℕ) (x : Entry) → queue_of a n ≡ i ∷ rest → entry_of i ≡ x
-          → taken_answer a n ≡ model.entry_answer (said plan) s n x (length (mapped entry_of rest))
+          → taken_answer a n ≡ Ok (Some (model.entry_answer (said plan) s n x (length (mapped entry_of rest))))
           → taken_payload (taken_area a n) (taken_answer a n) ≡ model.handed (said plan) s x → Follows plan a s (calls.take n)
       leaves k i rest x e is answered handed =
           let l = ltb-true n _ k in

@@ -6,12 +6,12 @@ use Prim.Native.Nat.{ℕ, zero, suc, ◌≤◌, ◌<◌}
 use native.Mathlib.Omega.{arith}
 use lib.Dec.{leb}
 use lib.ListN.{length}
+use Rattle.std.specs.Prelude.{Ok, Err}
 use Rattle.base.specs.Pick.{pick}
 use Rattle.base.proofs.Picks.{picks}
 use Rattle.clock.specs.Counter.{counter_after, counter_next}
 use Rattle.plan.specs.Rows.{tx_of, rows_of}
 use Rattle.area.specs.Layout.{counter}
-use Rattle.answers.specs.declared.Ticked.TheVariants.{Done, Refused}
 use Rattle.answers.specs.declared.Refusal.TheVariants.{ShortReport}
 use Rattle.ticking.specs.Tick.{tx_ticks, rx_ticks, expired_report, expiry_report, rx_report, reported, ticked, tick_answer, ticked_area, ticked_report}
 use Rattle.refines.proofs.Prescalers.{rx_prescaler}
@@ -87,7 +87,7 @@ module _ {plan a : List ℕ} {s : State} (lawful : Lawful (said plan)) (h : Held
   unfolding tick_answer model.tick_answer
   answered report = picks _ _ _ h.reads.header.mark ∙ rw h.reads.header.rx
 
-  reports : (report : List ℕ) → ticked_report Done a report ≡ model.reported (said plan) s (length (rows_of plan)) report
+  reports : (report : List ℕ) → ticked_report (Ok tt) a report ≡ model.reported (said plan) s (length (rows_of plan)) report
   unfolding ticked_report
   reports report = rw (h.reads.header.tx, h.reads.header.rx) (same_report (length (rows_of plan)) (omega arith) report)
 
@@ -97,8 +97,8 @@ module _ {plan a : List ℕ} {s : State} (lawful : Lawful (said plan)) (h : Held
     where
       go : (b : Bool) → leb (length (rows_of plan)) (length report) ≡ b → Follows plan a s (calls.tick report)
       go true e =
-          let d : tick_answer a report ≡ Done = answered report ∙ rw e in
-          record { answer = rw (d, e) (ap (calls.ticked Done) (reports report)); held = rw (d, e) held-ticked }
+          let d : tick_answer a report ≡ Ok tt = answered report ∙ rw e in
+          record { answer = rw (d, e) (ap (calls.ticked (Ok tt)) (reports report)); held = rw (d, e) held-ticked }
       go false e =
-          let d : tick_answer a report ≡ Refused ShortReport = answered report ∙ rw e in
+          let d : tick_answer a report ≡ Err ShortReport = answered report ∙ rw e in
           record { answer = rw (d, e); held = rw (d, e) h }

@@ -6,6 +6,7 @@ use Prim.Native.Nat.{ℕ}
 use lib.Dec.{leb, eqb}
 use lib.ListN.{length}
 use borrow.Author.Tests.{eq-eqb, le-leb, eqb-true, leb-true}
+use Rattle.std.specs.Prelude.{Err}
 use Rattle.base.specs.Pick.{pick}
 use Rattle.base.specs.Numbers.{byte_at, Bytes}
 use Rattle.base.proofs.Picks.{picks, passes, cases}
@@ -15,7 +16,6 @@ use Rattle.plan.specs.Check.{check_plan}
 use Rattle.area.specs.Layout.{area_length, marked}
 use Rattle.answers.specs.declared.Refusal.{Refusal}
 use Rattle.answers.specs.declared.Refusal.TheVariants.{Plan as BadPlan, ShortArea}
-use Rattle.answers.specs.declared.Opened.TheVariants.{Refused}
 use Rattle.opening.specs.Opened.{opened_answer, opened_area}
 use Rattle.reception.specs.Reception.{received_answer, received_area}
 use Rattle.polling.specs.Polling.{responded_answer, responded_area, silent_answer, silent_area}
@@ -107,7 +107,7 @@ opening_answer room (verdict.Refused reason number) = refl
 -- whatever stands in the area; the world before matters where the opening is refused
 pub opening_agrees :
     (a plan : List ℕ) → Bytes plan → (w : World)
-    → ((why : Refusal) (number : ℕ) → opened_answer (check_plan plan) (length a) ≡ Refused why number → Agrees a w)
+    → ((why : Refusal) (number : ℕ) → opened_answer (check_plan plan) (length a) ≡ Err (record { why = why; record_number = number }) → Agrees a w)
     → Agrees (opened_area (opened_answer (check_plan plan) (length a)) plan a) (open_next (open_answer (length a) (check_plan plan)) w plan)
 unfolding opened_answer open_answer opened_area open_next
 opening_agrees a plan b w k = go (check_plan plan) refl

@@ -1,5 +1,5 @@
 -- The one place where the bytes of an area meet the model: what an area shows, and that it answers as the model does.
-use Rattle.std.specs.Prelude.{◌≡◌, ◌≢◌, List, ◌∷◌, ◌++◌, ℕ, ◌+◌, ◌<◌, ◌≤◌, length, get_or}
+use Rattle.std.specs.Prelude.{◌≡◌, ◌≢◌, List, ◌∷◌, ◌++◌, ℕ, ◌+◌, ◌<◌, ◌≤◌, length, get_or, Ok}
 use Rattle.base.specs.Numbers.{byte_at, Bytes}
 use Rattle.clock.specs.Counter.{counter_after}
 use Rattle.records.specs.declared.record.Entry.{Entry}
@@ -8,7 +8,6 @@ use Rattle.plan.specs.Rows.{tx_of, rows_of, nodes_in}
 use Rattle.facts.specs.Good.{Each}
 use Rattle.area.specs.Layout.{tx_timer, rx_timer, long, payload, counter}
 use Rattle.area.specs.Queue.{entry_of, queue_of}
-use Rattle.answers.specs.declared.Opened.TheVariants.{Open}
 use Rattle.history.specs.Calls.{reply_in, replies_in, after_in}
 use Rattle.model.specs.State.{State, kept_of, queue_on}
 use Rattle.model.specs.Opening.{mapped}
@@ -56,7 +55,7 @@ pub record Since (a : List ℕ) (before : List Step) (plan : List ℕ) (since : 
 
 pub record AsTheModel : Type 0 where
   pub unopened : (a : List ℕ) → (Marked a → ⊥) → (steps : List Step) → Each OfBytes steps → Unopened a steps
-  pub since : (a : List ℕ) (before : List Step) (plan : List ℕ) (n t r : ℕ) → reply_in (after_in a before) (opening plan) ≡ opened (Open n t r)
+  pub since : (a : List ℕ) (before : List Step) (plan : List ℕ) (n t r : ℕ) → reply_in (after_in a before) (opening plan) ≡ opened (Ok (record { nodes = n; tx = t; rx = r }))
       → Bytes plan → (since : List Step) → Each OfBytes since → Since a before plan since
   -- every opening, whatever stands in the area, is answered as the model answers it
   pub openings : (a : List ℕ) (before : List Step) (plan : List ℕ) (w : World)
@@ -68,7 +67,7 @@ pub record AsTheModel : Type 0 where
 
 abbrev pub WaitsOnce : Type 0
 WaitsOnce =
-    (a : List ℕ) (before : List Step) (plan : List ℕ) (n t r : ℕ) → reply_in (after_in a before) (opening plan) ≡ opened (Open n t r)
+    (a : List ℕ) (before : List Step) (plan : List ℕ) (n t r : ℕ) → reply_in (after_in a before) (opening plan) ≡ opened (Ok (record { nodes = n; tx = t; rx = r }))
     → Bytes plan → (since : List Step) → Each OfBytes since → (m : ℕ) → m < 16 → (i j : ℕ) → i < j
     → j < length (waiting_on (after_in a (before ++ opening plan ∷ since)) m) → (e : Entry)
     → get_or (waiting_on (after_in a (before ++ opening plan ∷ since)) m) i e ≢ get_or (waiting_on (after_in a (before ++ opening plan ∷ since)) m) j e

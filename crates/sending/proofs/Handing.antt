@@ -8,6 +8,7 @@ use native.Mathlib.Omega.{arith}
 use borrow.Author.Tests.{eq-eqb, ne_eqb, lt-ltb}
 use lib.Dec.{eqb}
 use lib.ListN.{length}
+use Rattle.std.specs.Prelude.{Option, Some, None, Result, Ok}
 use Rattle.base.specs.Pick.{pick}
 use Rattle.base.specs.Numbers.{byte_at}
 use Rattle.base.proofs.Picks.{picks, passes, by_eqb}
@@ -22,6 +23,7 @@ use Rattle.plan.specs.Rows.{rows_of, tx_of, nodes_in}
 use Rattle.area.specs.Layout.{node_count_byte, requests_start, node_count, in_width}
 use Rattle.area.specs.Queue.{ends_of, entry_of, oldest, dequeued, queue_of}
 use Rattle.area.proofs.QueueLaws.{length-queue_of, queue_dequeued_other}
+use Rattle.answers.specs.declared.Refusal.{Refusal}
 use Rattle.answers.specs.declared.Framing.{Framing}
 use Rattle.answers.specs.declared.Framing.TheVariants.{Can, Lin}
 use Rattle.answers.specs.declared.Taken.{Taken}
@@ -38,20 +40,20 @@ abbrev pub framing_in : List ℕ → ℕ → Id → List ℕ → Framing
 framing_in plan n id payload = pick (is_lin (type_at plan n)) (Lin (protected_of (plain_id id)) (checksum_of (protected_of (plain_id id)) payload)) Can
 
 -- a frame of node n with this payload, and a request, as they leave: what the plan says of them, and how many still wait
-abbrev pub frame_taken : List ℕ → ℕ → ℕ → List ℕ → ℕ → Taken
+abbrev pub frame_taken : List ℕ → ℕ → ℕ → List ℕ → ℕ → Result (Option Taken) Refusal
 frame_taken plan n t payload waiting =
     let x = planned_tx plan t in
-    taken.Frame (record { tx = record { 0 = t }; id = x.id; size = x.size; waiting = waiting; framing = framing_in plan n x.id payload })
+    Ok (Some (taken.Frame (record { tx = record { 0 = t }; id = x.id; size = x.size; waiting = waiting; framing = framing_in plan n x.id payload })))
 
-abbrev pub request_taken : List ℕ → ℕ → ℕ → Taken
+abbrev pub request_taken : List ℕ → ℕ → ℕ → Result (Option Taken) Refusal
 request_taken plan r waiting =
     let x = (row_at plan r).frame in
-    taken.Request (record { rx = record { 0 = r }; id = x.id; size = x.size; waiting = waiting; protected = protected_of (plain_id x.id) })
+    Ok (Some (taken.Request (record { rx = record { 0 = r }; id = x.id; size = x.size; waiting = waiting; protected = protected_of (plain_id x.id) })))
 
 -- "none, or the oldest waiting frame, which then waits no more: its Tx number, ID, size, how many still wait on that node"; "A take answers a request
 -- (Rx number, ID, size, waiting count ..) or a frame" (document 02, Ticket 2)
 pub record Takes (plan a : List ℕ) (n : ℕ) : Type 0 where
-  pub none : queue_of a n ≡ [] → (taken_answer a n ≡ taken.Nothing) × (taken_area a n ≡ a)
+  pub none : queue_of a n ≡ [] → (taken_answer a n ≡ Ok None) × (taken_area a n ≡ a)
   pub can : (k : ℕ) (rest : List ℕ) → queue_of a n ≡ k ∷ rest → CanWait plan n k
   pub frame : (t : ℕ) (rest : List ℕ) → queue_of a n ≡ t ∷ rest → t < length (tx_of plan)
       → taken_answer a n ≡ frame_taken plan n t (kept_part a t (planned_tx plan t).size) (length rest)
@@ -77,7 +79,7 @@ module _ {plan a : List ℕ} (reads : Reads plan a) (ready : Ready plan a) (n : 
 
   -- ---- nobody waits
 
-  nothing : queue_of a n ≡ [] → (taken_answer a n ≡ taken.Nothing) × (taken_area a n ≡ a)
+  nothing : queue_of a n ≡ [] → (taken_answer a n ≡ Ok None) × (taken_area a n ≡ a)
   unfolding oldest_answer oldest_area
   nothing e =
       let z : (ends_of a n).waiting ≡ 0 = sym (length-queue_of a n) ∙ ap length e in
@@ -108,7 +110,7 @@ module _ {plan a : List ℕ} (reads : Reads plan a) (ready : Ready plan a) (n : 
     can : CanWait plan n k
     can = rw first at (oldest_can ready n below some)
 
-    answered : taken_answer a n ≡ entry_answer a n (entry_of k) (length rest)
+    answered : taken_answer a n ≡ Ok (Some (entry_answer a n (entry_of k) (length rest)))
     unfolding oldest_answer
     answered =
         let c : (ends_of a n).waiting - 1 ≡ length rest = omega (arith, count) in

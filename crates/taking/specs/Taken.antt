@@ -2,7 +2,7 @@
 -- that node, and its payload of that size, handed back as that part of the area". "A take answers a request (Rx number, ID, size, waiting count, the
 -- empty part ..) or a frame, with the protected identifier" (document 02, Ticket 2). "Fullness of a Tx frame answers how many of its bits have an
 -- owner, 0 to 64." "A .. take say[s] which format" (Ticket 6): the ID says it.
-use Rattle.std.specs.Prelude.{ℕ, ◌-◌, ◌%◌, List, [], ltb, eqb, length, take, drop}
+use Rattle.std.specs.Prelude.{ℕ, ◌-◌, ◌%◌, List, [], ltb, eqb, length, take, drop, Option, Some, None, Result, Ok, Err}
 use Rattle.base.specs.Pick.{pick}
 use Rattle.lin.specs.Identifier.{protected_of}
 use Rattle.lin.specs.Checksum.{checksum_of}
@@ -13,13 +13,12 @@ use Rattle.records.specs.Ids.{plain_id}
 use Rattle.records.specs.Nodes.{is_lin}
 use Rattle.area.specs.Layout.{long_enough, payload, marked, node_count, type_on, tx_count, in_width, owned_bits, tx_frame, rx_frame}
 use Rattle.area.specs.Queue.{ends_of, entry_of, oldest, dequeued}
+use Rattle.answers.specs.declared.Refusal.{Refusal}
 use Rattle.answers.specs.declared.Refusal.TheVariants.{NotOpen, NoNode, NoFrame}
 use Rattle.answers.specs.declared.Framing.{Framing}
 use Rattle.answers.specs.declared.Framing.TheVariants.{Can, Lin}
 use Rattle.answers.specs.declared.Taken.{Taken}
 use Rattle.answers.specs.declared.Taken.TheVariants as taken
-use Rattle.answers.specs.declared.Fullness.{Fullness}
-use Rattle.answers.specs.declared.Fullness.TheVariants as fullness
 
 -- the first bytes of a kept payload; of an area that is too short, none
 unfoldable pub kept_part : List ℕ → ℕ → ℕ → List ℕ
@@ -51,27 +50,27 @@ entry_answer a n (entry.Request r) waiting =
     })
 
 -- the oldest of node n, where one waits
-unfoldable pub oldest_answer : List ℕ → ℕ → Taken
-oldest_answer a n = pick (eqb (ends_of a n).waiting 0) taken.Nothing (entry_answer a n (entry_of (oldest a n)) ((ends_of a n).waiting - 1))
+unfoldable pub oldest_answer : List ℕ → ℕ → Result (Option Taken) Refusal
+oldest_answer a n = pick (eqb (ends_of a n).waiting 0) (Ok None) (Ok (Some (entry_answer a n (entry_of (oldest a n)) ((ends_of a n).waiting - 1))))
 
 unfoldable pub oldest_area : List ℕ → ℕ → List ℕ
 oldest_area a n = pick (eqb (ends_of a n).waiting 0) a (dequeued a n)
 
 -- "For calls: 11, then 12"
-unfoldable pub taken_answer : List ℕ → ℕ → Taken
-taken_answer a n = pick (marked a) (pick (ltb n (node_count a)) (oldest_answer a n) (taken.Refused NoNode)) (taken.Refused NotOpen)
+unfoldable pub taken_answer : List ℕ → ℕ → Result (Option Taken) Refusal
+taken_answer a n = pick (marked a) (pick (ltb n (node_count a)) (oldest_answer a n) (Err NoNode)) (Err NotOpen)
 
 unfoldable pub taken_area : List ℕ → ℕ → List ℕ
 taken_area a n = pick (marked a) (pick (ltb n (node_count a)) (oldest_area a n) a) a
 
 -- "with "none" or a refusal, the empty part"
-unfoldable pub taken_payload : List ℕ → Taken → List ℕ
-taken_payload a (taken.Frame x) = kept_part a x.tx.0 x.size
-taken_payload a (taken.Request x) = []
-taken_payload a taken.Nothing = []
-taken_payload a (taken.Refused why) = []
+unfoldable pub taken_payload : List ℕ → Result (Option Taken) Refusal → List ℕ
+taken_payload a (Ok (Some (taken.Frame x))) = kept_part a x.tx.0 x.size
+taken_payload a (Ok (Some (taken.Request x))) = []
+taken_payload a (Ok None) = []
+taken_payload a (Err why) = []
 
 -- "For calls: 11, then .. 15"
-unfoldable pub fullness_answer : List ℕ → ℕ → Fullness
+unfoldable pub fullness_answer : List ℕ → ℕ → Result ℕ Refusal
 fullness_answer a t =
-    pick (marked a) (pick (ltb t (tx_count a)) (fullness.Owned (owned_bits a t)) (fullness.Refused NoFrame)) (fullness.Refused NotOpen)
+    pick (marked a) (pick (ltb t (tx_count a)) (Ok (owned_bits a t)) (Err NoFrame)) (Err NotOpen)

@@ -3,52 +3,40 @@
 
 ghost use Rattle.std.specs.Prelude.{◌≡◌, ◌<◌};
 ghost use Rattle.records.specs.declared.record.Entry.TheVariants.{Frame, Request};
-ghost use Rattle.area.specs.Layout.{waiter_range, LongEnough, tx_frame};
-ghost use Rattle.area.specs.Queue.{entry_of};
+ghost use Rattle.area.specs.Layout.{LongEnough, tx_frame};
 ghost use Rattle.taking.specs.Taken.{kept_part, framing_of, entry_answer, taken_answer, taken_area, taken_payload, fullness_answer};
 
-use answers::{Framing, Fullness, Refusal, Taken, TakenFrame, TakenRequest};
+use answers::{Framing, Refusal, Taken, TakenFrame, TakenRequest};
 use area::frames::{owned_bits, rx_fields_place, rx_id, rx_size, tx_id, tx_size};
-use area::header::{has_node, is_marked, node_type, tx_count};
+use area::guards::{check_node, check_open};
+use area::header::{node_type, tx_count};
 use area::layout;
 use area::layout::{AREA_LENGTH, in_range, in_width};
 use area::queue::{dequeue, ends_at, entry_of, oldest_of};
 use records::record::{Entry, NodeType, RxNumber, TxNumber};
 
 // The oldest waiting frame or request of a node, which then waits no more.
-pub fn take(area: &mut [u8], node: usize) -> Taken
+pub fn take(area: &mut [u8], node: usize) -> Result<Option<Taken>, Refusal>
     ensures answer { result ≡ taken_answer area.old node }
     ensures bytes { area.new ≡ taken_area area.old node }
 {
-    let open = is_marked(area);
-    if !open {
-        return Taken::Refused(Refusal::NotOpen);
-    }
-    let there = has_node(area, node);
-    if !there {
-        return Taken::Refused(Refusal::NoNode);
-    }
+    check_open(area)?;
+    check_node(area, node)?;
     let ends = ends_at(area, node);
     if ends.waiting == 0 {
-        return Taken::Nothing;
+        return Ok(None);
     }
     let number = oldest_of(area, ends);
     // first, so that the answer is made where the queue's numbers are done with
     dequeue(area, node, ends, number);
-    answer_of(area, node, number, ends.waiting - 1)
-}
-
-// What leaves node `n`'s queue, by its number; so many wait after it.
-fn answer_of(area: &[u8], n: usize, number: usize, waiting: usize) -> Taken
-    requires { (number < waiter_range) × LongEnough area.now }
-    ensures { result ≡ entry_answer area.now n (entry_of number) waiting }
-{
+    let waiting = ends.waiting - 1;
     match entry_of(number) {
-        Entry::Frame(t) => frame_of(area, n, t, waiting),
-        Entry::Request(r) => request_of(area, n, r, waiting),
+        Entry::Frame(t) => Ok(Some(frame_of(area, node, t, waiting))),
+        Entry::Request(r) => Ok(Some(request_of(area, node, r, waiting))),
     }
 }
 
+// What leaves node `n`'s queue, after which so many wait: a frame, or a request.
 fn frame_of(area: &[u8], n: usize, t: TxNumber, waiting: usize) -> Taken
     requires { (t.0 < 256) × LongEnough area.now }
     ensures { result ≡ entry_answer area.now n (Frame t) waiting }
@@ -113,27 +101,23 @@ fn part(area: &[u8], tx: TxNumber, size: usize) -> &[u8]
 }
 
 // The kept payload of a frame that was taken, as that part of the area; the empty part where none was.
-pub fn payload(area: &[u8], taken: Taken) -> &[u8]
+#[tactic(auto, unfolding(crate::specs::Taken::taken_payload))]
+pub fn payload(area: &[u8], taken: Result<Option<Taken>, Refusal>) -> &[u8]
     ensures { result.now ≡ taken_payload area.now taken }
 {
     match taken {
-        Taken::Frame(x) => part(area, x.tx, x.size),
-        Taken::Request(_) => &area[..0],
-        Taken::Nothing => &area[..0],
-        Taken::Refused(_) => &area[..0],
+        Ok(Some(Taken::Frame(frame))) => part(area, frame.tx, frame.size),
+        Ok(Some(Taken::Request(_))) | Ok(None) | Err(_) => &area[..0],
     }
 }
 
 // How many bits of a Tx frame have an owner, 0 to 64.
-pub fn fullness(area: &[u8], tx: usize) -> Fullness
+pub fn fullness(area: &[u8], tx: usize) -> Result<usize, Refusal>
     ensures { result ≡ fullness_answer area.now tx }
 {
-    let open = is_marked(area);
-    if !open {
-        return Fullness::Refused(Refusal::NotOpen);
-    }
+    check_open(area)?;
     if tx_count(area) <= tx {
-        return Fullness::Refused(Refusal::NoFrame);
+        return Err(Refusal::NoFrame);
     }
-    Fullness::Owned(owned_bits(area, TxNumber(tx)))
+    Ok(owned_bits(area, TxNumber(tx)))
 }

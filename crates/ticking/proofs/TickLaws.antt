@@ -6,18 +6,18 @@ use native.Mathlib.Omega.{arith}
 use native.Mathlib.Decide.{ℕ_discrete}
 use lib.ListN.{length, set, drop, length-set}
 use lib.Seq.{get_or-set_same, get_or-set_other}
+use Rattle.std.specs.Prelude.{Result, Ok, Err}
 use Rattle.base.specs.Numbers.{byte_at}
 use Rattle.base.proofs.Picks.{both}
 use Rattle.base.proofs.Ranges.{at_most-le}
 use Rattle.clock.specs.Counter.{counter_next}
-use Rattle.answers.specs.declared.Ticked.{Ticked}
-use Rattle.answers.specs.declared.Ticked.TheVariants.{Done, Refused}
 use Rattle.area.specs.Layout.{counter_byte, plan_start, marked, counter, tx_count, rx_count, plan_of, tx_frame, rx_frame, claims}
 use Rattle.area.proofs.Frame.{Same, Spared, same_tail}
 use Rattle.area.proofs.Kept.{in_plan, plan_of_kept, tx_frame_kept, rx_frame_kept, claims_kept}
 use Rattle.ticking.specs.Tick.{tx_ticks, expired_report, expiry_report, rx_report, rx_ticks, reported, ticked, ticked_area, ticked_report}
 use Rattle.ticking.proofs.Positions.{Positions}
 use Rattle.ticking.proofs.TickFrame.{Same-tx_ticks, Same-rx_ticks, Same-ticked, Kept-ticked}
+use Rattle.answers.specs.declared.Refusal.{Refusal}
 
 -- ---- on any area: the length, the mark, the counter
 
@@ -62,10 +62,10 @@ module _ (a : List ℕ) (positions : Positions a) where
   claims-ticked = claims_kept (Kept-ticked a positions)
 
 -- the call: what holds of the ticked area and of the area as it was holds of what the call leaves
-pub by_answer : (P : List ℕ → Type 0) (x : Ticked) (a : List ℕ) → P (ticked a) → P a → P (ticked_area x a)
+pub by_answer : (P : List ℕ → Type 0) (x : Result (Unit {0}) Refusal) (a : List ℕ) → P (ticked a) → P a → P (ticked_area x a)
 unfolding ticked_area
-by_answer P Done a done stayed = done
-by_answer P (Refused why) a done stayed = stayed
+by_answer P (Ok ticks) a done stayed = done
+by_answer P (Err why) a done stayed = stayed
 
 -- ---- the report
 
@@ -104,12 +104,12 @@ pub small_reported : (k n : ℕ) (a report : List ℕ) (r : ℕ) → r < n → n
 small_reported k n a report r h l = rw (byte_reported k n a report r h l) (rx_report_small k _ r)
 
 -- the call: the report's length stays, and its bytes from the Rx frame count on
-pub length-ticked_report : (x : Ticked) (a report : List ℕ) → length (ticked_report x a report) ≡ length report
+pub length-ticked_report : (x : Result (Unit {0}) Refusal) (a report : List ℕ) → length (ticked_report x a report) ≡ length report
 unfolding ticked_report
-length-ticked_report Done a report = length-reported _ _ _ report
-length-ticked_report (Refused why) a report = refl
+length-ticked_report (Ok done) a report = length-reported _ _ _ report
+length-ticked_report (Err why) a report = refl
 
-pub further_ticked_report : (x : Ticked) (a report : List ℕ) (j : ℕ) → rx_count a ≤ j → byte_at (ticked_report x a report) j ≡ byte_at report j
+pub further_ticked_report : (x : Result (Unit {0}) Refusal) (a report : List ℕ) (j : ℕ) → rx_count a ≤ j → byte_at (ticked_report x a report) j ≡ byte_at report j
 unfolding ticked_report
-further_ticked_report Done a report j h = further_reported _ _ _ report j h
-further_ticked_report (Refused why) a report j h = refl
+further_ticked_report (Ok done) a report j h = further_reported _ _ _ report j h
+further_ticked_report (Err why) a report j h = refl

@@ -1,5 +1,5 @@
 -- "Tick. .. The counter moves on last. .. Tx timers go first, in number order: expiry reloads and schedules. Rx timers follow, in number order."
-use Rattle.std.specs.Prelude.{ℕ, zero, suc, ◌+◌, Bool, List, leb, eqb, length, set}
+use Rattle.std.specs.Prelude.{ℕ, zero, suc, ◌+◌, Bool, List, leb, eqb, length, set, Result, Ok, Err}
 use Rattle.base.specs.Pick.{pick}
 use Rattle.base.specs.Numbers.{byte_at}
 use Rattle.records.specs.Nodes.{is_lin}
@@ -9,9 +9,8 @@ use Rattle.area.specs.Layout.{counter_byte, requests_start, tx_reload, rx_reload
 use Rattle.area.specs.Layout.{marked, counter, order, type_on, tx_count, rx_count, home_node, rx_frame, claims}
 use Rattle.area.specs.Queue.{scheduled, requested}
 use Rattle.area.specs.Claims.{expired, all_done}
+use Rattle.answers.specs.declared.Refusal.{Refusal}
 use Rattle.answers.specs.declared.Refusal.TheVariants.{NotOpen, ShortReport}
-use Rattle.answers.specs.declared.Ticked.{Ticked}
-use Rattle.answers.specs.declared.Ticked.TheVariants.{Done, Refused}
 
 -- ---- a timer at a place
 
@@ -84,13 +83,13 @@ ticked a =
     set (rx_ticks (counter a) (rx_count a) (tx_ticks (counter a) (tx_count a) a)) counter_byte (counter_next (counter a))
 
 -- "For calls: 11, then .. 14."
-unfoldable pub tick_answer : List ℕ → List ℕ → Ticked
-tick_answer a report = pick (marked a) (pick (leb (rx_count a) (length report)) Done (Refused ShortReport)) (Refused NotOpen)
+unfoldable pub tick_answer : List ℕ → List ℕ → Result (Unit {0}) Refusal
+tick_answer a report = pick (marked a) (pick (leb (rx_count a) (length report)) (Ok tt) (Err ShortReport)) (Err NotOpen)
 
-unfoldable pub ticked_area : Ticked → List ℕ → List ℕ
-ticked_area Done a = ticked a
-ticked_area (Refused why) a = a
+unfoldable pub ticked_area : Result (Unit {0}) Refusal → List ℕ → List ℕ
+ticked_area (Ok done) a = ticked a
+ticked_area (Err why) a = a
 
-unfoldable pub ticked_report : Ticked → List ℕ → List ℕ → List ℕ
-ticked_report Done a report = reported (counter a) (rx_count a) (tx_ticks (counter a) (tx_count a) a) report
-ticked_report (Refused why) a report = report
+unfoldable pub ticked_report : Result (Unit {0}) Refusal → List ℕ → List ℕ → List ℕ
+ticked_report (Ok done) a report = reported (counter a) (rx_count a) (tx_ticks (counter a) (tx_count a) a) report
+ticked_report (Err why) a report = report

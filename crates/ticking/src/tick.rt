@@ -5,24 +5,23 @@ ghost use Rattle.ticking.specs.Tick.{tx_ticks, reported, ticked, tick_answer, ti
 
 use crate::rx::rx_ticks;
 use crate::tx::tx_ticks;
-use answers::{Refusal, Ticked};
-use area::header::{is_marked, rx_count, tx_count};
+use answers::Refusal;
+use area::guards::check_open;
+use area::header::{rx_count, tx_count};
 use area::layout::COUNTER_BYTE;
 
 // The call. A refused one changes nothing.
-pub fn tick(area: &mut [u8], report: &mut [u8]) -> Ticked
+pub fn tick(area: &mut [u8], report: &mut [u8]) -> Result<(), Refusal>
     ensures answer { result ≡ tick_answer area.old report.old }
     ensures bytes { area.new ≡ ticked_area result area.old }
     ensures report { report.new ≡ ticked_report result area.old report.old }
 {
-    if is_marked(area) {
-        if report.len() < rx_count(area) {
-            return Ticked::Refused(Refusal::ShortReport);
-        }
-        run(area, report);
-        return Ticked::Done;
+    check_open(area)?;
+    if report.len() < rx_count(area) {
+        return Err(Refusal::ShortReport);
     }
-    Ticked::Refused(Refusal::NotOpen)
+    run(area, report);
+    Ok(())
 }
 
 // A tick of an open area. The timers see the counter as it was; it moves on last.

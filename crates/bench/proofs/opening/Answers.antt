@@ -5,6 +5,7 @@ use mathlib.Core.List.{List}
 use native.Mathlib.Omega.{arith}
 use lib.Dec.{leb}
 use lib.ListN.{length, replicate, length-replicate}
+use Rattle.std.specs.Prelude.{Result, Ok, Err}
 use Rattle.base.proofs.Apart.{differ}
 use Rattle.base.proofs.Picks.{both}
 use Rattle.plan.specs.declared.verdict.Verdict.{Verdict}
@@ -12,9 +13,8 @@ use Rattle.plan.specs.declared.verdict.Verdict.TheVariants as verdict
 use Rattle.plan.specs.Check.{check_plan}
 use Rattle.facts.proofs.Bounds.{good_bounds}
 use Rattle.area.specs.Layout.{area_length}
-use Rattle.answers.specs.declared.Refusal.{Refusal}
-use Rattle.answers.specs.declared.Opened.{Opened}
-use Rattle.answers.specs.declared.Opened.TheVariants.{Open, Refused}
+use Rattle.plan.specs.declared.verdict.PlanCounts.{PlanCounts}
+use Rattle.answers.specs.declared.RefusedPlan.{RefusedPlan}
 use Rattle.opening.specs.Opened.{opened_answer, opened_area}
 use Rattle.events.specs.Events.{plan_of}
 use Rattle.text.proofs.TextLaws.{put_shows}
@@ -22,45 +22,45 @@ use Rattle.output.specs.Output.{open_of, plan_text}
 use Rattle.output.proofs.OutputLaws.{first_good, first_refused}
 use Rattle.bench.proofs.opening.Goals as goal
 
-abbrev Few : Opened → Type 0
-Few o = (n t r : ℕ) → o ≡ Open n t r → r ≤ 256
+abbrev Few : Result PlanCounts RefusedPlan → Type 0
+Few o = (counts : PlanCounts) → o ≡ Ok counts → counts.rx ≤ 256
 
-refused_few : (why : Refusal) (number : ℕ) → Few (Refused why number)
-refused_few why number n t r e = absurd (differ cc)
+refused_few : (refused : RefusedPlan) → Few (Err refused)
+refused_few refused counts e = absurd (differ cc)
 
 verdict_few : (plan : List ℕ) (size : ℕ) (v : Verdict) → check_plan plan ≡ v → Few (opened_answer v size)
 unfolding opened_answer
 verdict_few plan size (verdict.Good n t r) e =
     both Few (leb area_length size) _ _
-    (λ n' t' r' o. let same : r ≡ r' = cc in rw same at (good_bounds plan n t r e).rx)
-    (refused_few _ _)
-verdict_few plan size (verdict.Refused reason number) e = refused_few _ _
+    (λ counts o. let same : r ≡ counts.rx = cc in rw same at (good_bounds plan n t r e).rx)
+    (refused_few _)
+verdict_few plan size (verdict.Refused reason number) e = refused_few _
 
-on_zeros : (input area : List ℕ) (end : ℕ) (answer : Opened) → area ≡ replicate area_length 0
+on_zeros : (input area : List ℕ) (end : ℕ) (answer : Result PlanCounts RefusedPlan) → area ≡ replicate area_length 0
     → answer ≡ opened_answer (check_plan (plan_of input end)) (length area) → plan_text answer input end ≡ plan_text (open_of input end) input end
 on_zeros input area end answer zeros e =
     let long = ap length zeros ∙ length-replicate {A = ℕ} area_length 0 in
-    ap (λ (o : Opened). plan_text o input end) (e ∙ ap (λ (n : ℕ). opened_answer (check_plan (plan_of input end)) n) long)
+    ap (λ (o : Result PlanCounts RefusedPlan). plan_text o input end) (e ∙ ap (λ (n : ℕ). opened_answer (check_plan (plan_of input end)) n) long)
 
-pub returns-in-Open : goal.returns-in-Open
-returns-in-Open c =
+pub returns-in-Ok : goal.returns-in-Ok
+returns-in-Ok c =
     let input = c.args.input.now in
     let end = c.args.end in
     let answer = c.open-answer.result in
     let bytes = c.open-answer.ensures.bytes ∙ ap (λ (a : List ℕ). opened_area answer (plan_of input end) a) c.requires.2 in
     let shows = put_shows c.plan_line-size.ensures.0 (omega arith) in record {
-      text = first_good input c.plan_line-size.new.line c.open-answer.new.area end c.plan_line-size.result _ _ _ answer c.in-Open.is shows bytes
+      text = first_good input c.plan_line-size.new.line c.open-answer.new.area end c.plan_line-size.result _ answer c.in-Ok.is shows bytes
           ∙ on_zeros input c.args.area.now end answer c.requires.2 c.open-answer.ensures.answer;
-      next = (omega arith, omega arith, verdict_few _ _ _ refl _ _ _ (sym c.open-answer.ensures.answer ∙ c.in-Open.is));
+      next = (omega arith, omega arith, verdict_few _ _ _ refl _ (sym c.open-answer.ensures.answer ∙ c.in-Ok.is));
     }
 
-pub returns-in-Refused : goal.returns-in-Refused
-returns-in-Refused c =
+pub returns-in-Err : goal.returns-in-Err
+returns-in-Err c =
     let input = c.args.input.now in
     let end = c.args.end in
     let answer = c.open-answer.result in
     let shows = put_shows c.plan_line-size.ensures.0 (omega arith) in record {
-      text = first_refused input c.plan_line-size.new.line c.open-answer.new.area end c.plan_line-size.result _ _ answer c.in-Refused.is shows
+      text = first_refused input c.plan_line-size.new.line c.open-answer.new.area end c.plan_line-size.result _ answer c.in-Err.is shows
           ∙ on_zeros input c.args.area.now end answer c.requires.2 c.open-answer.ensures.answer;
       next = (omega arith, omega arith, omega arith);
     }

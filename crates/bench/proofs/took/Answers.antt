@@ -4,20 +4,22 @@ use mathlib.Core.List.{List}
 use native.Mathlib.Omega.{arith}
 use lib.Dec.{leb}
 use lib.ListN.{length, length-take}
+use Rattle.std.specs.Prelude.{Option, Some, None, Result, Ok, Err}
 use Rattle.base.proofs.Picks.{both}
 use Rattle.area.specs.Layout.{area_length}
+use Rattle.answers.specs.declared.Refusal.{Refusal}
 use Rattle.answers.specs.declared.Taken.{Taken}
-use Rattle.answers.specs.declared.Taken.TheVariants.{Nothing, Frame, Request, Refused}
+use Rattle.answers.specs.declared.Taken.TheVariants.{Frame, Request}
 use Rattle.taking.specs.Taken.{kept_part, taken_payload}
 use Rattle.output.specs.Output.{taken_text}
 use Rattle.bench.proofs.took.Goals as goal
 
-short : (a : List ℕ) (t : Taken) → length (taken_payload a t) ≤ 256
+short : (a : List ℕ) (t : Result (Option Taken) Refusal) → length (taken_payload a t) ≤ 256
 unfolding taken_payload kept_part
-short a Nothing = omega arith
-short a (Refused why) = omega arith
-short a (Request request) = omega arith
-short a (Frame frame) =
+short a (Ok None) = omega arith
+short a (Err why) = omega arith
+short a (Ok (Some (Request request))) = omega arith
+short a (Ok (Some (Frame frame))) =
     both (λ (p : List ℕ). length p ≤ 256) (leb area_length (length a)) _ _
     (simp length-take (omega arith)) (omega arith)
 

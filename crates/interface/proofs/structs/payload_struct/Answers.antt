@@ -2,7 +2,9 @@
 use mathlib.Core.Path.{◌≡◌, refl, sym}
 use lib.Dec.{eqb}
 use borrow.Author.Tests.{eq-eqb, ne_eqb, le-leb, lt-leb}
+use Rattle.std.specs.Prelude.{Option, Result}
 use Rattle.base.proofs.Picks.{picks, passes, both}
+use Rattle.answers.specs.declared.Refusal.{Refusal}
 use Rattle.answers.specs.declared.Taken.{Taken}
 use Rattle.interface.specs.Structs.{no_part, payload_struct}
 use Rattle.interface.specs.Back.{taken_of}
@@ -21,6 +23,6 @@ returns-else-length-ge-AREA_LENGTH c = rw (picks _ _ _ (eq-eqb _ _ c.if-taken-eq
 pub returns-else-taken-eq1 : goal.returns-else-taken-eq1
 unfolding payload_struct no_part taken_of
 returns-else-taken-eq1 c = let a = c.args in
-    let Empty : Taken → Type 0 = λ t. no_part ≡ payload_struct a.length t in
+    let Empty : Result (Option Taken) Refusal → Type 0 = λ t. no_part ≡ payload_struct a.length t in
     rw (passes _ _ _ (ne_eqb _ _ c.if-taken-eq1.false))
     (both Empty (eqb a.taken.kind 2) _ _ refl (both Empty (eqb a.taken.number 0) _ _ refl refl))

@@ -24,7 +24,7 @@ pub fn four_at(bytes: &[u8], at: usize) -> usize
     requires { at + 4 ≤ length bytes.now }
     ensures { (result ≡ four_at bytes.now at) × (result < 2 ^ 32) }
 {
-    u32::from_be_bytes([bytes[at], bytes[at + 1], bytes[at + 2], bytes[at + 3]]) as usize
+    two_at(bytes, at) * 65536 + two_at(bytes, at + 2)
 }
 
 // The number in the two bytes from `at` on, the low byte first.

@@ -21,9 +21,8 @@ fn lay(plan: &[u8], area: &mut [u8])
     requires { (length plan.now ≤ plan_room) × LongEnough area.old }
     ensures { area.new ≡ laid plan.now (length plan.now) area.old }
 {
-    let n = plan.len();
-    for i in 0..n {
-        area[PLAN_START + i] = plan[i];
+    for (i, byte) in plan.iter().enumerate() {
+        area[PLAN_START + i] = *byte;
     }
 }
 

@@ -14,13 +14,11 @@ pub fn with_rings(area: &mut [u8])
     ensures { area.new ≡ with_rings 16 area.old }
 {
     let mut start = 0;
-    let mut n = 0;
-    while n < 16 {
+    for n in 0..16 {
         let at = queue(n);
         let room = low_at(area, at + 2);
         put_low(area, at, start);
         start += room;
-        n += 1;
     }
 }
 
@@ -29,8 +27,7 @@ pub fn with_fullness(area: &mut [u8], sets: &[u64])
     requires { (length sets.now ≡ 256) × LongEnough area.old }
     ensures { area.new ≡ with_fullness sets.now 256 area.old }
 {
-    for t in 0..256 {
-        let owned = count(sets[t]);
-        put_low(area, full(TxNumber(t)), owned as usize);
+    for (t, set) in sets.iter().enumerate() {
+        put_low(area, full(TxNumber(t)), count(*set) as usize);
     }
 }

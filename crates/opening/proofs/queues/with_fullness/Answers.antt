@@ -7,12 +7,12 @@ pub loop-t-init : goal.loop-t-init
 unfolding with_fullness
 loop-t-init c = (refl, omega arith, refl)
 
-pub overflow_cast-owned : goal.overflow_cast-owned
-overflow_cast-owned c = omega arith
-
 pub loop-t-preserved : goal.loop-t-preserved
 unfolding with_fullness
 loop-t-preserved c = (rw add-one cc, omega arith, cc)
 
 pub returns : goal.returns
-returns c = let e = le_antisymm c.loop-t.invariant.1 c.loop-t-test.false in cc
+returns c =
+    let all = c.requires.0 in
+    let e = le_antisymm c.loop-t.invariant.1 (rw all at c.loop-t-test.false) in
+    cc

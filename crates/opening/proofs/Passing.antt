@@ -1,5 +1,6 @@
 -- Signals and destinations put nothing into an area, so that a run of them may be passed over.
-use Rattle.std.proofs.Common.{◌≡◌, ℕ, ◌+◌, ◌-◌, ◌<◌, ◌≤◌, List, length, refl, ap, ◌∙◌, arith}
+use Rattle.std.proofs.Common.{◌≡◌, ℕ, ◌+◌, ◌-◌, ◌<◌, ◌≤◌, List, length, take, drop, get_or, refl, ap, ◌∙◌, arith}
+use Rattle.std.proofs.lemmas.List.{take_rest, get_or-drop, length-drop}
 use Rattle.base.specs.Pick.{pick}
 use Rattle.base.specs.Numbers.{byte_at}
 use Rattle.records.specs.declared.decode.Step.{Step}
@@ -7,6 +8,16 @@ use Rattle.records.specs.Kinds.{signal_bytes, destination_bytes, form_of, length
 use Rattle.records.specs.Records.{record_at, size_of, records_at}
 use Rattle.records.proofs.RecordLaws.{records_step, step_whole}
 use Rattle.opening.specs.Opened.{with_record, with_records, Passes}
+
+-- what a pattern says of a plan from a place on
+pub begins_with : (plan : List ℕ) (at kind : ℕ) → get_or (take (length plan - at) (drop at plan)) 0 0 ≡ kind → byte_at plan at ≡ kind
+begins_with plan at kind e =
+    let here : at + 0 ≡ at = omega arith in
+    let first : get_or (drop at plan) 0 0 ≡ kind = rw (take_rest plan at) at e in
+    rw (get_or-drop at plan 0 0, here) at first
+
+pub are_left : (plan : List ℕ) (at n : ℕ) → n ≤ length (take (length plan - at) (drop at plan)) → n ≤ length plan - at
+are_left plan at n h = rw (take_rest plan at, length-drop at plan) at h
 
 pub Passes-none : (plan : List ℕ) (at : ℕ) → at ≤ length plan → Passes plan at at
 Passes-none plan at h = record { onward = omega arith; within = h; leaves = λ a. refl }

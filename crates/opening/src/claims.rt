@@ -10,10 +10,7 @@ fn past_destinations(plan: &[u8], from: usize) -> usize
     ensures { Passes plan.now from result }
 {
     let mut at = from;
-    while DESTINATION_BYTES <= plan.len() - at {
-        if plan[at] != DESTINATION_KIND {
-            return at;
-        }
+    while let [DESTINATION_KIND, _, _, _, ..] = &plan[at..] {
         at += DESTINATION_BYTES;
     }
     at
@@ -25,10 +22,7 @@ pub fn past_claims(plan: &[u8], from: usize) -> usize
     ensures { Passes plan.now from result }
 {
     let mut at = from;
-    while SIGNAL_BYTES <= plan.len() - at {
-        if plan[at] != SIGNAL_KIND {
-            return at;
-        }
+    while let [SIGNAL_KIND, _, _, ..] = &plan[at..] {
         at = past_destinations(plan, at + SIGNAL_BYTES);
     }
     at

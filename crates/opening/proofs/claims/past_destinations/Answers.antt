@@ -1,26 +1,14 @@
 -- `opening::claims::past_destinations` meets its contract: each turn passes one destination.
-use Rattle.std.proofs.Common.{arith}
-use Rattle.opening.proofs.Passing.{Passes-none, Passes-then, Passes-destination}
+use Rattle.std.proofs.Common.{arith, rules}
+use Rattle.opening.proofs.Passing.{begins_with, are_left, Passes-none, Passes-then, Passes-destination}
 use Rattle.opening.proofs.claims.past_destinations.Goals as goal
 
 pub loop-at-init : goal.loop-at-init
 loop-at-init c = (Passes-none _ _ (omega arith), omega arith)
 
-pub overflow_sub-plan : goal.overflow_sub-plan
-overflow_sub-plan c = omega arith
-
-pub bounds-plan-at : goal.bounds-plan-at
-bounds-plan-at c = omega arith
-
-pub returns-then-plan-at-ne-DESTINATION_KIND : goal.returns-then-plan-at-ne-DESTINATION_KIND
-returns-then-plan-at-ne-DESTINATION_KIND c = c.loop-at.invariant.0
-
-pub loop-at-smaller : goal.loop-at-smaller
-loop-at-smaller c = omega arith
-
 pub loop-at-preserved : goal.loop-at-preserved
 loop-at-preserved c =
-    (Passes-then c.loop-at.invariant.0 (Passes-destination _ _ c.if-plan-at-ne-DESTINATION_KIND.false c.loop-at-test.true), omega arith)
-
-pub returns : goal.returns
-returns c = c.loop-at.invariant.0
+    let plan = c.args.plan.now in
+    let at = c.loop-at.at in
+    let whole = are_left plan at 4 c.in-6.len_at_least in
+    (Passes-then c.loop-at.invariant.0 (Passes-destination plan at (begins_with plan at 6 (search rules)) whole), omega arith)

@@ -6,9 +6,7 @@ ghost use Rattle.interface.specs.Structs.{opened_struct, received_struct, ticked
 ghost use Rattle.interface.specs.Structs.{id_in, word_of, protected_in, checksum_in, nothing_taken, taken_struct};
 ghost use Rattle.interface.specs.Back.{taken_of};
 
-use answers::{
-    Framing, Received, Refusal, RefusedPlan, Responded, Taken, TakenFrame, TakenRequest, Timeout,
-};
+use answers::{Framing, Received, Refusal, RefusedPlan, Responded, Taken, TakenFrame, TakenRequest, Timeout};
 use area::layout;
 use area::layout::{AREA_LENGTH, in_width};
 use base::at_most;
@@ -233,34 +231,39 @@ pub fn taken_struct(answer: Result<Option<Taken>, Refusal>) -> GatewayTaken
     }
 }
 
-#[tactic(auto, unfolding(crate::specs::Structs::taken_struct, crate::specs::Structs::nothing_taken))]
+#[tactic(auto, unfolding(crate::specs::Structs::taken_struct))]
 fn frame_struct(frame: TakenFrame) -> GatewayTaken
     ensures { result ≡ taken_struct (Ok (Some (Frame frame))) }
 {
+    let protected_id = protected_in(frame.framing);
+    let checksum = checksum_in(frame.framing);
     GatewayTaken {
+        number: 0,
         kind: 1,
         size: (frame.size % 256) as u8,
         tx: low(frame.tx.0),
+        rx: 0,
         id: word_of(frame.id),
         waiting: low(frame.waiting),
-        protected_id: protected_in(frame.framing),
-        checksum: checksum_in(frame.framing),
-        ..nothing_taken(0)
+        protected_id,
+        checksum,
     }
 }
 
-#[tactic(auto, unfolding(crate::specs::Structs::taken_struct, crate::specs::Structs::nothing_taken))]
+#[tactic(auto, unfolding(crate::specs::Structs::taken_struct))]
 fn request_struct(request: TakenRequest) -> GatewayTaken
     ensures { result ≡ taken_struct (Ok (Some (Request request))) }
 {
     GatewayTaken {
+        number: 0,
         kind: 2,
         size: (request.size % 256) as u8,
+        tx: 0,
         rx: low(request.rx.0),
         id: word_of(request.id),
         waiting: low(request.waiting),
         protected_id: request.protected,
-        ..nothing_taken(0)
+        checksum: 0,
     }
 }
 

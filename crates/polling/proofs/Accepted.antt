@@ -1,23 +1,22 @@
--- An accepted response: the long counter starts again, and then the walk does all that the claims say.
-use mathlib.Core.Path.{◌≡◌}
+-- An accepted response: the area keeps its plan, and it is what an acceptance does that starts the long counter and no timer.
+use mathlib.Core.Path.{◌≡◌, ap}
+use mathlib.Core.Bool.{false}
 use mathlib.Core.List.{List}
-use Prim.Native.Nat.{ℕ, ◌+◌, ◌<◌}
+use Prim.Native.Nat.{ℕ, ◌<◌}
+use native.Mathlib.Nat.{mod-eq_of_lt}
 use native.Mathlib.Omega.{arith}
-use Rattle.records.specs.Kinds.{rx_fields}
-use Rattle.area.specs.Layout.{long, order, rx_fields_place, stored, rx_there}
-use Rattle.area.specs.Claims.{failure_written}
+use lib.ListN.{set}
+use Rattle.area.specs.Layout.{long, order, rx_frame, claims}
+use Rattle.area.specs.Claims.{accepted, all_done}
 use Rattle.area.proofs.Kept.{Kept, Kept-refl, Kept-low}
-use Rattle.reception.specs.Walk.{walked}
-use Rattle.reception.proofs.WalkLaws.{walked-claims}
+use Rattle.reception.specs.Reception.{restarted_by, accepted_by}
 use Rattle.polling.specs.Polling.{long_again, accepted_area}
 
 pub Kept-again : (a : List ℕ) (r : ℕ) → r < 256 → Kept a (long_again a r)
 unfolding long_again
 Kept-again a r h = Kept-low (long r) _ (omega arith) (omega arith) (Kept-refl a)
 
-pub walked_accepted :
-    (a : List ℕ) (r : ℕ) (payload b c : List ℕ) → r < 256 → b ≡ long_again a r → c ≡ failure_written (order a) 0 b (rx_fields_place a r)
-    → (rx_there b (rx_fields_place a r)).position < 256
-    → walked (order a) payload 0 0 (stored c) (rx_fields_place a r + rx_fields) c ≡ accepted_area a r payload
-unfolding accepted_area
-walked_accepted a r payload b c h e f narrow = rw (← e) (walked-claims a r payload b c (rw e (Kept-again a r h)) f narrow)
+pub accepted_on-lin : (a : List ℕ) (r : ℕ) (payload : List ℕ) → r < 256 → accepted_by false a r payload ≡ accepted_area a r payload
+unfolding accepted_by restarted_by accepted_area long_again
+accepted_on-lin a r payload h =
+    ap (λ n. all_done (order a) (accepted r payload) (claims a r) (set a (long n) (rx_frame a r).long)) (mod-eq_of_lt h)

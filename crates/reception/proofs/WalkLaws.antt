@@ -1,6 +1,7 @@
 -- One turn of the walk along an Rx frame's signals and destinations; and what the whole of it is.
 use mathlib.Core.Path.{◌≡◌, sym, ap, ◌∙◌}
 use mathlib.Core.Logic.{◌≢◌}
+use mathlib.Core.Bool.{Bool, true, false}
 use mathlib.Core.List.{List}
 use mathlib.Core.Option.{none}
 use Prim.Native.Nat.{ℕ, ◌+◌, ◌%◌, ◌≤◌, ◌<◌}
@@ -16,7 +17,7 @@ use Rattle.area.proofs.Frame.{Same, Same-refl, Same-set}
 use Rattle.area.proofs.Kept.{Kept, Kept-refl, Kept-low, stored_kept}
 use Rattle.area.proofs.ClaimLaws.{claim_of, all_done-numbered}
 use Rattle.area.proofs.Copies.{copies_destination, copies_signal, copies_stop, copies_end, copies_rx, accepted_claims, Kept-failure, done_low}
-use Rattle.reception.specs.Reception.{restarted, accepted_area}
+use Rattle.reception.specs.Reception.{restarted, restarted_by, accepted_by}
 use Rattle.reception.specs.Walk.{walked}
 
 -- ---- the record at a place
@@ -75,10 +76,15 @@ walked-claims a r payload b c kept f narrow =
     ∙ ap (all_done (order a) (accepted r payload) (claims_from r none 0 0 (records_at (stored b) (at + rx_fields)))) f
     ∙ sym (accepted_claims (order a) r a at b payload (stored_kept kept)))
 
+Kept-again : (timer : Bool) (a : List ℕ) (r : ℕ) → r < row_bound → Kept a (restarted_by timer a r)
+unfolding restarted restarted_by
+Kept-again true a r h = Kept-restarted a r h
+Kept-again false a r h = Kept-low (long (r % 256)) _ (omega arith) (omega arith) (Kept-refl a)
+
 -- once the row has started again: what an acceptance does
 pub walked_accepted :
-    (a : List ℕ) (r : ℕ) (payload b c : List ℕ) → r < row_bound → b ≡ restarted a r → c ≡ failure_written (order a) 0 b (rx_fields_place a r)
-    → (rx_there b (rx_fields_place a r)).position < 256
-    → walked (order a) payload 0 0 (stored c) (rx_fields_place a r + rx_fields) c ≡ accepted_area a r payload
-unfolding accepted_area
-walked_accepted a r payload b c h e f narrow = rw (← e) (walked-claims a r payload b c (rw e (Kept-restarted a r h)) f narrow)
+    (timer : Bool) (a : List ℕ) (r : ℕ) (payload b c : List ℕ) → r < row_bound → b ≡ restarted_by timer a r
+    → c ≡ failure_written (order a) 0 b (rx_fields_place a r) → (rx_there b (rx_fields_place a r)).position < 256
+    → walked (order a) payload 0 0 (stored c) (rx_fields_place a r + rx_fields) c ≡ accepted_by timer a r payload
+unfolding accepted_by
+walked_accepted timer a r payload b c h e f narrow = rw (← e) (walked-claims a r payload b c (rw e (Kept-again timer a r h)) f narrow)

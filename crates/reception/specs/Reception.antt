@@ -1,5 +1,6 @@
 -- "Reception takes node, ID and payload." "A reception .. say[s] which format" (document 02, Ticket 6): the ID says it.
 use Rattle.std.specs.Prelude.{ℕ, ◌%◌, List, leb, ltb, length, set, Result, Ok, Err}
+use Rattle.std.specs.Prelude.{Bool, if◌then◌else◌}
 use Rattle.base.specs.Pick.{pick}
 use Rattle.base.specs.Numbers.{byte_at}
 use Rattle.records.specs.declared.record.Id.{Id}
@@ -23,6 +24,13 @@ restarted a r = set (set a (rx_timer r) (byte_at a (rx_reload r))) (long (r % 25
 -- destinations in order."
 unfoldable pub accepted_area : List ℕ → ℕ → List ℕ → List ℕ
 accepted_area a r payload = all_done (order a) (accepted r payload) (claims a r) (restarted a r)
+
+-- the same, where `timer` says whether the timer starts too: "Reception does not reload a LIN timer" (document 02, Ticket 2)
+unfoldable pub restarted_by : Bool → List ℕ → ℕ → List ℕ
+restarted_by timer a r = set (if timer then set a (rx_timer r) (byte_at a (rx_reload r)) else a) (long (r % 256)) (rx_frame a r).long
+
+unfoldable pub accepted_by : Bool → List ℕ → ℕ → List ℕ → List ℕ
+accepted_by timer a r payload = all_done (order a) (accepted r payload) (claims a r) (restarted_by timer a r)
 
 -- "A frame with no matching row is not processed further: answer 1, nothing changes. .. A payload shorter than the row's size: answer 2,
 -- nothing changes. Otherwise it is accepted, answer 0"; "Answer 1 carries this number" (document 02, Ticket 4)

@@ -1,7 +1,7 @@
 // The reception of a frame: the call, and the acceptance. The walk that follows it is in `walk`.
 ghost use Rattle.std.specs.Prelude.{◌≡◌, ◌≤◌, ◌<◌, length};
 ghost use Rattle.area.specs.Layout.{last_place, row_bound, LongEnough, rx_fields_place};
-ghost use Rattle.reception.specs.Reception.{restarted, accepted_area, received_answer, received_area};
+ghost use Rattle.reception.specs.Reception.{restarted_by, accepted_by, received_answer, received_area};
 
 use crate::lookup::{Found, look_up};
 use crate::walk::walk;
@@ -37,31 +37,35 @@ pub fn receive(area: &mut [u8], node: usize, id: Id, payload: &[u8]) -> Result<R
     if payload.len() < rx_size(area, at) {
         return Ok(Received::TooShort);
     }
-    accept(area, r, at, payload);
+    accept::<true>(area, r, at, payload);
     Ok(Received::Accepted)
 }
 
 // An accepted payload of Rx frame `r`, whose fields begin at `at`: the row starts again, the failure bit becomes 0, and then the payload goes along
-// the frame's signals. Inline, since the compiler takes what follows several `?` for rare.
+// the frame's signals. `TIMER` says whether the Rx timer starts too: on LIN, where it asks for the frame, it goes on. Inline, since the compiler takes
+// what follows several `?` for rare.
 #[inline(always)]
-fn accept(area: &mut [u8], r: RxNumber, at: usize, payload: &[u8])
+pub fn accept<const TIMER: bool>(area: &mut [u8], r: RxNumber, at: usize, payload: &[u8])
     requires { (r.0 < row_bound) × (at ≡ rx_fields_place area.old r.0) × (at ≤ last_place) × (length payload.now ≤ 8) × LongEnough area.old }
-    ensures { area.new ≡ accepted_area area.old r.0 payload.now }
+    ensures { area.new ≡ accepted_by TIMER area.old r.0 payload.now }
 {
     let order = area[ORDER_BYTE];
-    restart(area, r, at);
+    restart::<TIMER>(area, r, at);
     write_failure(order, 0, area, at);
     walk(order, payload, area, at + RX_FIELDS);
 }
 
-// Row `r`, whose fields begin at `at`: the Rx timer takes its reload value, and the long counter the long count.
-fn restart(area: &mut [u8], r: RxNumber, at: usize)
+// Row `r`, whose fields begin at `at`: the Rx timer takes its reload value, if it starts too, and the long counter the long count.
+#[tactic(auto, unfolding(crate::specs::Reception::restarted_by, area::specs::Layout::rx_frame, records::specs::Kinds::rx_at))]
+fn restart<const TIMER: bool>(area: &mut [u8], r: RxNumber, at: usize)
     requires { (r.0 < row_bound) × (at ≡ rx_fields_place area.old r.0) × (at ≤ last_place) × LongEnough area.old }
-    ensures { area.new ≡ restarted area.old r.0 }
+    ensures { area.new ≡ restarted_by TIMER area.old r.0 }
 {
     let long_count = rx_long(area, at);
-    let timer = rx_timer(r);
-    area[timer] = area[rx_reload(r)];
+    if TIMER {
+        let timer = rx_timer(r);
+        area[timer] = area[rx_reload(r)];
+    }
     let long_counter = long(row_in_range(r));
     area[long_counter] = long_count;
 }

@@ -7,6 +7,7 @@ use Rattle.base.specs.Pick.{pick}
 use Rattle.records.specs.Kinds.{rx_at}
 use Rattle.area.specs.Layout.{rx_frame}
 use Rattle.polling.specs.Polling.{is_sum, row_answer, row_area}
+use Rattle.polling.proofs.Accepted.{accepted_on-lin}
 use Rattle.polling.proofs.respond.deliver.Goals as goal
 
 pub returns-then-payload-rx_size : goal.returns-then-payload-rx_size
@@ -24,7 +25,7 @@ returns-then-is_sum c =
     let place = c.rx_fields_place-at.ensures.0 in
     let t = le-ltb (length v.payload.now) (rx_frame v.area.now v.r.0).size (rw place at (rw c.rx_size.ensures at c.if-payload-rx_size.false)) in
     let right : is_sum v.id v.payload.now v.sum ≡ true = sym c.is_sum.ensures ∙ c.if-is_sum.true in
-    record { answer = rw (t, right); bytes = rw (t, right) c.accept.ensures }
+    record { answer = rw (t, right); bytes = rw (t, right) (c.accept.ensures ∙ accepted_on-lin v.area.now v.r.0 v.payload.now c.requires.0) }
 
 pub returns : goal.returns
 unfolding row_answer row_area rx_frame rx_at pick

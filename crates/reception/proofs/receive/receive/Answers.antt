@@ -11,7 +11,7 @@ use Rattle.area.specs.Layout.{node_count, rx_frame}
 use Rattle.answers.specs.declared.Received.TheVariants.{NoRow}
 use Rattle.reception.specs.declared.lookup.Found.TheVariants.{At, Nothing}
 use Rattle.reception.specs.Lookup.{place_in}
-use Rattle.reception.specs.Reception.{found_answer, found_area}
+use Rattle.reception.specs.Reception.{restarted, restarted_by, accepted_area, accepted_by, found_answer, found_area}
 use Rattle.reception.proofs.Outcomes.{not_open, no_node, refused_on_lin, long_payload, goes_on}
 use Rattle.reception.proofs.receive.receive.Goals as goal
 
@@ -67,7 +67,7 @@ returns-then-payload-rx_size c =
     (sym c.in-At.is ∙ c.look_up-found.ensures.0) (rw t) (rw t) in record { answer = all.0; bytes = all.1 }
 
 pub returns : goal.returns
-unfolding found_answer found_area rx_frame rx_at pick is_lin
+unfolding found_answer found_area accepted_area accepted_by restarted restarted_by rx_frame rx_at pick is_lin
 returns c =
     let v = c.args in
     let place = c.rx_fields_place-at.ensures.0 in

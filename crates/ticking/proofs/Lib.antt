@@ -5,3 +5,5 @@ pub mod TickLaws
 pub mod Apart
 pub mod Sixteens
 pub mod Turns
+pub mod Zeros
+pub mod BothKinds

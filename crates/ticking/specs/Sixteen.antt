@@ -7,7 +7,7 @@ use Rattle.clock.specs.Counter.{no_common_bit}
 use Rattle.clock.specs.Timer.{lowered}
 use Rattle.area.specs.Layout.{tx_reload, rx_reload, tx_timer, rx_timer, tx_mask}
 use Rattle.area.specs.Queue.{scheduled}
-use Rattle.ticking.specs.Tick.{rx_expiry, expiry_report, rx_tick, rx_report}
+use Rattle.ticking.specs.Tick.{tx_tick, tx_ticks, rx_expiry, expiry_report, rx_tick, rx_ticks, rx_report, reported}
 
 -- a change at each of the n numbers from j on, in their order
 unfoldable pub each : (List ℕ → ℕ → List ℕ) → ℕ → ℕ → List ℕ → List ℕ
@@ -74,3 +74,47 @@ marked_report m j (suc n) a report =
     pick (eqb (byte_at m n) 1)
     (set (marked_report m j n a report) (j + n) (expiry_report (each_marked rx_step m j n a) (j + n)))
     (marked_report m j n a report)
+
+-- ---- the timers of a kind: Rx timers with the report where `rx` says so, and else Tx timers, which have none
+
+-- the number of timer n in the one table
+unfoldable pub table_of : Bool → ℕ → ℕ
+table_of true n = 256 + n
+table_of false n = n
+
+unfoldable pub tick_of : Bool → ℕ → List ℕ → ℕ → List ℕ
+tick_of true = rx_tick
+tick_of false = tx_tick
+
+unfoldable pub ticks_of : Bool → ℕ → ℕ → List ℕ → List ℕ
+ticks_of true = rx_ticks
+ticks_of false = tx_ticks
+
+unfoldable pub step_of : Bool → List ℕ → ℕ → List ℕ
+step_of true = rx_step
+step_of false = tx_step
+
+unfoldable pub tick_told : Bool → ℕ → List ℕ → ℕ → List ℕ → List ℕ
+tick_told true k a n report = set report n (rx_report k a n)
+tick_told false k a n report = report
+
+unfoldable pub step_told : Bool → List ℕ → ℕ → List ℕ → List ℕ
+step_told true a n report = set report n (expiry_report a n)
+step_told false a n report = report
+
+unfoldable pub reported_by : Bool → ℕ → ℕ → List ℕ → List ℕ → List ℕ
+reported_by true k n a report = reported k n a report
+reported_by false k n a report = report
+
+unfoldable pub told_from : Bool → ℕ → ℕ → ℕ → List ℕ → List ℕ → List ℕ
+told_from true k j n a report = reported_from k j n a report
+told_from false k j n a report = report
+
+unfoldable pub told_marked : Bool → List ℕ → ℕ → ℕ → List ℕ → List ℕ → List ℕ
+told_marked true m j n a report = marked_report m j n a report
+told_marked false m j n a report = report
+
+-- zeros for the sixteen from j on
+unfoldable pub cleared_by : Bool → ℕ → List ℕ → List ℕ
+cleared_by true j report = with_zeros j 16 report
+cleared_by false j report = report

@@ -7,6 +7,7 @@ use area::layout::{TX_MASKS_START, TX_TIMERS_START};
 use clock::counter::no_common_bit;
 
 // The count of a timer that does not expire.
+#[tactic(auto, unfolding(crate::specs::Sixteen::fallen, base::specs::Pick::pick))]
 fn fallen(handled: bool, count: u8) -> u8
     ensures { result ≡ fallen handled count }
 {
@@ -19,6 +20,7 @@ fn fallen(handled: bool, count: u8) -> u8
 }
 
 // 1 where a timer expires.
+#[tactic(auto, unfolding(crate::specs::Sixteen::expiring, base::specs::Pick::pick))]
 fn expiring(handled: bool, count: u8) -> u8
     ensures { result ≡ expiring handled count }
 {

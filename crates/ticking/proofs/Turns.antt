@@ -10,7 +10,7 @@ use native.Mathlib.Decide.{ℕ_discrete}
 use lib.Dec.{eqb}
 use lib.ListN.{set}
 use lib.Seq.{get_or-set_other, set-set, set_comm}
-use borrow.Author.Tests.{eqb-true, ne_eqb}
+use borrow.Author.Tests.{ne_eqb}
 use Rattle.base.specs.Pick.{pick}
 use Rattle.base.specs.Numbers.{byte_at}
 use Rattle.base.proofs.Picks.{passes, into}
@@ -106,16 +106,6 @@ step_stored a t h =
     let same : Same (λ j. j ≡ tx_reload t) a (scheduled a t) =
     Same-scheduled (λ n b j x y e. omega arith) (λ j x y e. omega arith) a t (λ e. omega arith) (λ e. omega arith) in
     rw (same.at (tx_reload t) refl) (scheduled_stored a t h)
-
--- Tx timer t at the counter k, where it is handled: by whether it expires
-module _ (k : ℕ) (a : List ℕ) (t : ℕ) (on : no_common_bit k (byte_at a (tx_mask t)) ≡ true) where
-  pub tx_expires : eqb (byte_at a (tx_timer t)) 1 ≡ true → tx_step a t ≡ tx_tick k a t
-  unfolding tx_tick timed tx_step pick
-  tx_expires one = rw (on, eqb-true (byte_at a (tx_timer t)) 1 one)
-
-  pub tx_falls : eqb (byte_at a (tx_timer t)) 1 ≡ false → timed a (tx_reload t) (tx_timer t) ≡ tx_tick k a t
-  unfolding tx_tick pick
-  tx_falls off = rw (on, off)
 
 module _ (k j : ℕ) (a b m : List ℕ) (n : ℕ) (e : n ≡ 16) (h : j + 16 ≤ 256) where
   pub tx_sixteen : m ≡ marks_of k j n a → b ≡ each (fell k) j n a → each_marked tx_step m j 16 b ≡ each (tx_tick k) j 16 a
@@ -234,16 +224,6 @@ overwritten : (c : Bool) (xs : List ℕ) (p v w : ℕ) → pick c (set (set xs p
 unfolding pick
 overwritten true xs p v w = set-set xs p v w
 overwritten false xs p v w = refl
-
--- Rx timer r at the counter k, where it is handled: by whether it expires
-module _ (k : ℕ) (a : List ℕ) (r : ℕ) (on : no_common_bit k (byte_at a (rx_mask r)) ≡ true) where
-  pub rx_expires : eqb (byte_at a (rx_timer r)) 1 ≡ true → (expiry_report a r ≡ rx_report k a r) × (rx_step a r ≡ rx_tick k a r)
-  unfolding rx_tick rx_report timed rx_step pick
-  rx_expires one = rw (on, eqb-true (byte_at a (rx_timer r)) 1 one) (refl, refl)
-
-  pub rx_falls : eqb (byte_at a (rx_timer r)) 1 ≡ false → (0 ≡ rx_report k a r) × (timed a (rx_reload r) (rx_timer r) ≡ rx_tick k a r)
-  unfolding rx_tick rx_report pick
-  rx_falls off = rw (on, off) (refl, refl)
 
 module _ (m : List ℕ) (j : ℕ) where
   reports_set :

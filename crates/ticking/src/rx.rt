@@ -21,6 +21,7 @@ pub fn rx_ticks(area: &mut [u8], n: usize, k: u8, report: &mut [u8])
 }
 
 // Rx timer `r` at the counter `k`. Its mask says whether it is handled now. The answer is its byte of the report.
+#[tactic(auto, unfolding(crate::specs::Tick::rx_tick, crate::specs::Tick::rx_report, crate::specs::Tick::timed, crate::specs::Sixteen::rx_step, clock::specs::Timer::expires, base::specs::Pick::pick))]
 pub fn rx_tick(area: &mut [u8], r: RxNumber, k: u8) -> u8
     requires { (r.0 < 256) × LongEnough area.old }
     ensures report { result ≡ rx_report k area.old r.0 }

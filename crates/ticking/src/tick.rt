@@ -25,6 +25,7 @@ pub fn tick(area: &mut [u8], report: &mut [u8]) -> Result<(), Refusal>
 }
 
 // A tick of an open area. The timers see the counter as it was; it moves on last.
+#[tactic(auto, unfolding(crate::specs::Tick::ticked))]
 fn run(area: &mut [u8], report: &mut [u8])
     requires { LongEnough area.old × (rx_count area.old ≤ length report.old) }
     ensures bytes { area.new ≡ ticked area.old }

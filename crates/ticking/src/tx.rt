@@ -21,6 +21,7 @@ pub fn tx_ticks(area: &mut [u8], n: usize, k: u8)
 }
 
 // Tx timer `t` at the counter `k`. Its mask says whether it is handled now.
+#[tactic(auto, unfolding(crate::specs::Tick::tx_tick, crate::specs::Tick::timed, crate::specs::Sixteen::tx_step, clock::specs::Timer::expires, base::specs::Pick::pick))]
 pub fn tx_tick(area: &mut [u8], t: TxNumber, k: u8)
     requires { (t.0 < 256) × LongEnough area.old }
     ensures { area.new ≡ tx_tick k area.old t.0 }

@@ -1,310 +1,238 @@
 // Document 01's bench program: a plan and events on standard input, a line for each on standard output.
 #![tactic(auto)]
 
-ghost use Rattle.std.specs.Prelude.{◌≡◌, ◌++◌, ◌+◌, ◌%◌, ◌≤◌, ◌<◌, length, take, replicate, true, IfSome};
-ghost use Rattle.std.specs.Io.KnownBytes.{Appends, Consumes, IsAtEnd};
+ghost use Rattle.std.specs.Prelude.{◌≡◌, ◌+◌, ◌%◌, ◌≤◌, length, replicate, Some, OnOk, IfOk, IfSome};
+ghost use Rattle.std.specs.Io.KnownBytes.{Appends};
 ghost use Rattle.records.specs.Ids.{behind_id};
 ghost use Rattle.area.specs.Layout.{area_length};
 ghost use Rattle.reception.specs.Reception.{received_area};
 ghost use Rattle.polling.specs.Polling.{responded_area, silent_area};
 ghost use Rattle.ticking.specs.Tick.{tick_answer, ticked_area};
 ghost use Rattle.taking.specs.Taken.{taken_area};
-ghost use Rattle.events.specs.Events.{payload_at};
-ghost use Rattle.text.specs.Text.{LineIs};
+ghost use Rattle.events.specs.Events.{event_at, event_size, payload_at};
 ghost use Rattle.output.specs.Output.{received_text, responded_text, silent_text, fresh, ticked_text, taken_text};
-ghost use Rattle.output.specs.Output.{line_at, area_at, next_at, text_from, open_of, plan_text, bench_output};
+ghost use Rattle.output.specs.Output.{event_text, event_area, event_next, text_from, open_of, plan_text, bench_output};
 
 use area::layout::AREA_LENGTH;
-use events::{Event, Front, event_at, front_of, payload_at};
-use lines::{bad_line, plan_line, response_line, rx_line, silence_line, take_line, tick_line};
+use events::{Event, event_at, front_of, payload_at};
+use lines::{BadLine, PlanLine, ReceptionLine, ResponseLine, SilenceLine, TakeLine, TickLine};
 use opening::open::open;
 use polling::respond::respond;
 use polling::silence::no_response;
 use reception::receive::receive;
 use records::record::Id;
-use std::io::{Read, Write};
+use std::alloc::Allocator;
+use std::io::{self, BufWriter, Read, Write};
 use taking::{payload, take};
 use ticking::tick::tick;
 
-// What was done: how much text stands at the buffer's start, and where the next event begins. After a bad one that is the input's end.
-#[derive(Drop)]
-struct Step {
-    size: usize,
-    next: usize,
-}
-
-// What the first line did: the same, and how many Rx frames the plan has.
-#[derive(Drop)]
-struct Begun {
-    size: usize,
-    next: usize,
-    rx: usize,
-}
-
-// A reception, a response on LIN, "no response", a tick, a take: each writes its line at the start of the buffer, and answers how long the line is.
-fn received(input: &[u8], at: usize, node: usize, id: Id, area: &mut [u8], line: &mut [u8]) -> usize
-    requires { (at + behind_id id + 9 ≤ length input.now) × (2048 ≤ length line.old) }
-    ensures text { LineIs (received_text area.old node id (payload_at input.now (at + behind_id id)))
-        line.old line.new result }
+// A reception, a response on LIN, "no response", a tick, a take: each writes its line.
+#[tactic(auto, unfolding(output::specs::Output::received_text))]
+fn received<W: Write>(
+    input: &[u8],
+    at: usize,
+    node: usize,
+    id: Id,
+    area: &mut [u8],
+    out: &mut W,
+) -> io::Result<()>
+    requires { at + behind_id id + 9 ≤ length input.now }
+    ensures text { OnOk result (Appends (W.contents out.old) (W.contents out.new)
+        (received_text area.old node id (payload_at input.now (at + behind_id id)))) }
     ensures bytes { area.new ≡ received_area area.old node id (payload_at input.now (at + behind_id id)) }
 {
-    let mut data = [0u8; 9];
-    let n = payload_at(input, at + id.behind(), &mut data);
-    let answer = receive(area, node, id, &data[..n]);
-    rx_line(answer, line)
+    let payload = payload_at(input, at + id.behind());
+    let answer = receive(area, node, id, payload);
+    write!(out, "{}", ReceptionLine(answer))
 }
 
-fn responded(
+#[tactic(auto, unfolding(output::specs::Output::responded_text))]
+fn responded<W: Write>(
     input: &[u8],
     at: usize,
     node: usize,
     id: usize,
     sum: u8,
     area: &mut [u8],
-    line: &mut [u8],
-) -> usize
-    requires { (at + 13 ≤ length input.now) × (2048 ≤ length line.old) }
-    ensures text { LineIs (responded_text area.old node id (payload_at input.now (at + 4)) sum)
-        line.old line.new result }
+    out: &mut W,
+) -> io::Result<()>
+    requires { at + 13 ≤ length input.now }
+    ensures text { OnOk result (Appends (W.contents out.old) (W.contents out.new)
+        (responded_text area.old node id (payload_at input.now (at + 4)) sum)) }
     ensures bytes { area.new ≡ responded_area area.old node (id % 65536) (payload_at input.now (at + 4)) sum }
 {
-    let mut bytes = [0u8; 9];
-    let n = payload_at(input, at + 4, &mut bytes);
-    let answer = respond(area, node, (id % 65536) as u32, &bytes[..n], sum);
-    response_line(answer, line)
+    let payload = payload_at(input, at + 4);
+    let answer = respond(area, node, (id % 65536) as u32, payload, sum);
+    write!(out, "{}", ResponseLine(answer))
 }
 
-fn silent(node: usize, id: usize, area: &mut [u8], line: &mut [u8]) -> usize
-    requires { 2048 ≤ length line.old }
-    ensures text { LineIs (silent_text area.old node id) line.old line.new result }
+#[tactic(auto, unfolding(output::specs::Output::silent_text))]
+fn silent<W: Write>(node: usize, id: usize, area: &mut [u8], out: &mut W) -> io::Result<()>
+    ensures text { OnOk result (Appends (W.contents out.old) (W.contents out.new)
+        (silent_text area.old node id)) }
     ensures bytes { area.new ≡ silent_area area.old node (id % 65536) }
 {
     let answer = no_response(area, node, (id % 65536) as u32);
-    silence_line(answer, line)
+    write!(out, "{}", SilenceLine(answer))
 }
 
-fn ticked(area: &mut [u8], rx: usize, line: &mut [u8]) -> usize
-    requires { (rx ≤ 256) × (2048 ≤ length line.old) }
-    ensures text { LineIs (ticked_text area.old rx) line.old line.new result }
+fn ticked<W: Write>(area: &mut [u8], rx: usize, out: &mut W) -> io::Result<()>
+    requires { rx ≤ 256 }
+    ensures text { OnOk result (Appends (W.contents out.old) (W.contents out.new)
+        (ticked_text area.old rx)) }
     ensures bytes { area.new ≡ ticked_area (tick_answer area.old (fresh rx)) area.old }
 {
     let mut report = [0u8; 256];
     let answer = tick(area, &mut report[..rx]);
-    tick_line(answer, &report[..rx], line)
+    let report = &report[..rx];
+    write!(out, "{}", TickLine { answer, report })
 }
 
-fn took(area: &mut [u8], node: usize, line: &mut [u8]) -> usize
-    requires { 2048 ≤ length line.old }
-    ensures text { LineIs (taken_text area.old node) line.old line.new result }
+#[tactic(auto, unfolding(output::specs::Output::taken_text))]
+fn took<W: Write>(area: &mut [u8], node: usize, out: &mut W) -> io::Result<()>
+    ensures text { OnOk result (Appends (W.contents out.old) (W.contents out.new)
+        (taken_text area.old node)) }
     ensures bytes { area.new ≡ taken_area area.old node }
 {
     let answer = take(area, node);
-    take_line(answer, payload(area, answer), line)
+    let payload = payload(area, answer);
+    write!(out, "{}", TakeLine { answer, payload })
 }
 
-// The event at a place.
-fn event(input: &[u8], at: usize, area: &mut [u8], rx: usize, line: &mut [u8]) -> Step
-    requires { (at < length input.now) × (rx ≤ 256) × (2048 ≤ length line.old) }
-    ensures text { LineIs (line_at input.now at rx area.old) line.old line.new result.size }
-    ensures bytes { area.new ≡ area_at input.now at rx area.old }
-    ensures next { (result.next ≡ next_at input.now at) × (at < result.next) × (result.next ≤ length input.now) }
+// An event at a place writes its line.
+#[tactic(auto, unfolding(output::specs::Output::event_text, output::specs::Output::event_area, events::specs::Events::event_size))]
+fn show<W: Write>(
+    event: Event,
+    input: &[u8],
+    at: usize,
+    rx: usize,
+    area: &mut [u8],
+    out: &mut W,
+) -> io::Result<()>
+    requires { (at + event_size event ≤ length input.now) × (rx ≤ 256) }
+    ensures text { OnOk result (Appends (W.contents out.old) (W.contents out.new)
+        (event_text event input.now at rx area.old)) }
+    ensures bytes { area.new ≡ event_area event input.now at rx area.old }
 {
-    match event_at(input, at) {
+    match event {
         Event::Reception {
             node,
             id,
             length: _,
-        } => Step {
-            size: received(input, at, node, id, area, line),
-            next: at + id.behind() + 9,
-        },
-        Event::Tick => Step {
-            size: ticked(area, rx, line),
-            next: at + 1,
-        },
-        Event::Take { node } => Step {
-            size: took(area, node, line),
-            next: at + 2,
-        },
+        } => received(input, at, node, id, area, out),
+        Event::Tick => ticked(area, rx, out),
+        Event::Take { node } => took(area, node, out),
         Event::Response {
             node,
             id,
             length: _,
             sum,
-        } => Step {
-            size: responded(input, at, node, id, sum, area, line),
-            next: at + 14,
-        },
-        Event::NoResponse { node, id } => Step {
-            size: silent(node, id, area, line),
-            next: at + 4,
-        },
-        Event::Bad => Step {
-            size: bad_line(line),
-            next: input.len(),
-        },
-        Event::End => Step {
-            size: 0,
-            next: input.len(),
-        },
+        } => responded(input, at, node, id, sum, area, out),
+        Event::NoResponse { node, id } => silent(node, id, area, out),
+        Event::Bad => write!(out, "{BadLine}"),
     }
 }
 
-// The events from a place on, as many as the buffer has room for: what it shows now, and what the rest will show, is what is to be shown.
-fn fill(input: &[u8], from: usize, area: &mut [u8], rx: usize, out: &mut [u8]) -> Step
-    requires { (from ≤ length input.now) × (rx ≤ 256) × (length out.old ≡ 65536) }
-    ensures text { take result.size out.new ++ text_from input.now result.next rx area.new
-        ≡ text_from input.now from rx area.old }
-    ensures next { (result.size ≤ 65536) × (result.next ≤ length input.now)
-        × (from < length input.now → from < result.next) }
+// Where the next event begins; after a bad one that is the input's end.
+#[tactic(auto, unfolding(output::specs::Output::event_next, events::specs::Events::event_size))]
+fn behind(event: Event, input: &[u8], at: usize) -> usize
+    requires { at + event_size event ≤ length input.now }
+    ensures { result ≡ event_next event input.now at }
 {
-    let mut used = 0;
-    let mut at = from;
-    while at < input.len() {
-        if 63488 < used {
-            return Step {
-                size: used,
-                next: at,
-            };
-        }
-        let step = event(input, at, area, rx, &mut out[used..]);
-        used += step.size;
-        at = step.next;
-    }
-    Step {
-        size: used,
-        next: at,
+    match event {
+        Event::Reception {
+            node: _,
+            id,
+            length: _,
+        } => at + id.behind() + 9,
+        Event::Tick => at + 1,
+        Event::Take { node: _ } => at + 2,
+        Event::Response {
+            node: _,
+            id: _,
+            length: _,
+            sum: _,
+        } => at + 14,
+        Event::NoResponse { node: _, id: _ } => at + 4,
+        Event::Bad => input.len(),
     }
 }
 
-// The plan's line, and where the events begin; where the plan is refused, at the input's end.
-fn opening(input: &[u8], end: usize, area: &mut [u8], out: &mut [u8]) -> Begun
-    requires { (2 ≤ end) × (end ≤ length input.now) × (area.old ≡ replicate area_length 0) × (2048 ≤ length out.old) }
-    ensures text { take result.size out.new ++ text_from input.now result.next result.rx area.new
-        ≡ plan_text (open_of input.now end) input.now end }
-    ensures next { (result.size ≤ 2048) × (result.next ≤ length input.now) × (result.rx ≤ 256) }
+// The events from a place on.
+fn show_from<W: Write>(
+    input: &[u8],
+    from: usize,
+    rx: usize,
+    area: &mut [u8],
+    out: &mut W,
+) -> io::Result<()>
+    requires { rx ≤ 256 }
+    ensures { OnOk result (Appends (W.contents out.old) (W.contents out.new)
+        (text_from input.now from rx area.old)) }
+{
+    let mut at = from;
+    while let Some(event) = event_at(input, at) {
+        show(event, input, at, rx, area, out)?;
+        at = behind(event, input, at);
+    }
+    Ok(())
+}
+
+// The plan's line, and where the plan is good the events.
+fn opened<W: Write>(input: &[u8], end: usize, area: &mut [u8], out: &mut W) -> io::Result<()>
+    requires { (2 ≤ end) × (end ≤ length input.now) × (area.old ≡ replicate area_length 0) }
+    ensures { OnOk result (Appends (W.contents out.old) (W.contents out.new)
+        (plan_text (open_of input.now end) input.now end)) }
 {
     let answer = open(&input[2..end], area);
-    let size = plan_line(answer, out);
+    write!(out, "{}", PlanLine(answer))?;
     match answer {
-        Ok(counts) => Begun {
-            size,
-            next: end,
-            rx: counts.rx,
-        },
-        Err(_) => Begun {
-            size,
-            next: input.len(),
-            rx: 0,
-        },
+        Ok(counts) => show_from(input, end, counts.rx, area, out),
+        Err(_) => Ok(()),
     }
 }
 
-// The first line: what it shows, and what the events will show, is the whole output.
-fn begin(input: &[u8], area: &mut [u8], out: &mut [u8]) -> Begun
-    requires { (area.old ≡ replicate area_length 0) × (2048 ≤ length out.old) }
-    ensures text { take result.size out.new ++ text_from input.now result.next result.rx area.new
-        ≡ bench_output input.now }
-    ensures next { (result.size ≤ 2048) × (result.next ≤ length input.now) × (result.rx ≤ 256) }
-{
-    match front_of(input) {
-        Front::Bad => Begun {
-            size: bad_line(out),
-            next: input.len(),
-            rx: 0,
-        },
-        Front::Plan { end } => opening(input, end, area, out),
-    }
-}
-
-// How many bytes were read or handed on, and whether no read or write failed.
-#[derive(Clone, Copy)]
-struct Moved {
-    size: usize,
-    ok: bool,
-}
-
-// Reads until the buffer is full, the input ends or a read fails.
-fn read_input<R: Read>(reader: &mut R, buf: &mut [u8]) -> Moved
-    ensures inside { result.size ≤ length buf.new }
-    ensures bytes { Consumes (R.remaining reader.old) (R.remaining reader.new) (take result.size buf.new) }
-    ensures end { result.ok ≡ true → result.size < length buf.new → IsAtEnd (R.remaining reader.new) }
-{
-    let mut done = 0;
-    while done < buf.len() {
-        match reader.read(&mut buf[done..]) {
-            Ok(0) => {
-                return Moved {
-                    size: done,
-                    ok: true,
-                };
-            }
-            Ok(n) => done += n,
-            Err(_) => {
-                return Moved {
-                    size: done,
-                    ok: false,
-                };
-            }
-        }
-    }
-    Moved {
-        size: done,
-        ok: true,
-    }
-}
-
-// Writes the first bytes of a buffer. The size is how many it handed on.
-fn show<W: Write>(writer: &mut W, text: &[u8], size: usize) -> Moved
-    requires { size ≤ length text.now }
-    ensures size { result.size ≡ size }
-    ensures bytes { result.ok ≡ true
-        → Appends (W.contents writer.old) (W.contents writer.new) (take size text.now) }
-{
-    let shown = &text[..size];
-    let ok = writer.write_all(shown).is_ok();
-    Moved {
-        size: shown.len(),
-        ok,
-    }
-}
-
-// The whole input, one buffer after the other. The size is how many bytes were handed on: as many as the output has.
-fn run<W: Write>(input: &[u8], writer: &mut W) -> Moved
-    requires { length input.now ≤ 65537 }
-    ensures size { result.size ≡ length (bench_output input.now) }
-    ensures bytes { result.ok ≡ true
-        → Appends (W.contents writer.old) (W.contents writer.new) (bench_output input.now) }
+// The whole input.
+fn run<W: Write>(input: &[u8], out: &mut W) -> io::Result<()>
+    ensures { OnOk result (Appends (W.contents out.old) (W.contents out.new)
+        (bench_output input.now)) }
 {
     let mut area = [0u8; AREA_LENGTH];
-    let mut out = [0u8; 65536];
-    let first = begin(input, &mut area, &mut out);
-    let shown = show(writer, &out, first.size);
-    let mut total = shown.size;
-    let mut ok = shown.ok;
-    let rx = first.rx;
-    let mut at = first.next;
-    while at < input.len() {
-        let step = fill(input, at, &mut area, rx, &mut out);
-        let shown = show(writer, &out, step.size);
-        total += shown.size;
-        ok = ok && shown.ok;
-        at = step.next;
+    match front_of(input) {
+        Some(end) => opened(input, end, &mut area, out),
+        None => write!(out, "{BadLine}"),
     }
-    Moved { size: total, ok }
 }
 
-// From a reader to a writer. Where nothing failed, what is written is the output for all the reader's bytes.
-fn serve<R: Read, W: Write>(reader: &mut R, writer: &mut W) -> bool
-    ensures { result ≡ true → IfSome (R.remaining reader.old)
-        (λ input. Appends (W.contents writer.old) (W.contents writer.new) (bench_output input)) }
+// The output for the whole input, to a writer that is handed back.
+fn written<A: Allocator, W: Write + Drop>(alloc: A, input: &[u8], writer: W) -> io::Result<W>
+    ensures { IfOk result (λ w. Appends (W.contents writer) (W.contents w) (bench_output input.now)) }
 {
-    let mut input = [0u8; 65537];
-    let read = read_input(reader, &mut input);
-    let written = run(&input[..read.size], writer);
-    read.ok && written.ok
+    let mut out = BufWriter::with_capacity(alloc, 65536, writer)?;
+    run(input, &mut out)?;
+    match out.into_inner() {
+        Ok(writer) => Ok(writer),
+        Err(e) => Err(e.into_error()),
+    }
+}
+
+// From a reader to a writer, which is handed back. Where nothing failed, what is written is the output for all the reader's bytes: of input that is too
+// long no more is read than shows that. A read that fails ends the input.
+fn serve<A: Allocator + Copy, R: Read + Drop, W: Write + Drop>(
+    alloc: A,
+    reader: R,
+    writer: W,
+) -> io::Result<W>
+    ensures { IfOk result (λ w. IfSome (R.remaining reader)
+        (λ input. Appends (W.contents writer) (W.contents w) (bench_output input))) }
+{
+    let mut input = Vec::new(alloc);
+    let read = reader.take(65537).read_to_end(&mut input);
+    let writer = written(alloc, &input, writer)?;
+    read?;
+    Ok(writer)
 }
 
 fn main(rt: HostRuntime) {
-    serve(&mut rt.stdin(), &mut rt.stdout());
+    let _ = serve(rt.alloc(), rt.stdin(), rt.stdout());
 }

@@ -3,17 +3,64 @@
 
 ghost use Rattle.std.specs.Prelude.{◌≡◌, ◌+◌, ◌≤◌, ◌<◌, length};
 ghost use Rattle.base.specs.Numbers.{byte_at, two_at};
-ghost use Rattle.text.specs.Text.{Put};
-ghost use Rattle.events.specs.Events.{front_of, event_length, whole_event, event_at, payload_at, Inside, Within};
+ghost use Rattle.events.specs.Events.{KindOf, byte_of, front_of, event_length, whole_event, event_at, payload_at, Inside, Within};
 
 use records::record::Id;
-use text::put_word;
 
-#[derive(Clone, Copy)]
-pub enum Front {
-    // the plan is the input from 2 to here, and the events begin here
-    Plan { end: usize },
-    Bad,
+// The kinds of event records, each a byte.
+#[derive(Clone, Copy, Debug, PartialEq, Eq)]
+pub enum Kind {
+    // 16
+    Reception,
+    // 17
+    Tick,
+    // 18
+    Take,
+    // 19
+    ExtendedReception,
+    // 20
+    Response,
+    // 21
+    NoResponse,
+}
+
+// A byte that is no kind.
+#[derive(Clone, Copy, Debug, PartialEq, Eq)]
+pub struct UnknownKind(pub u8);
+
+impl TryFrom<u8> for Kind {
+    type Error = UnknownKind;
+
+    ghost try_from_gives = { KindOf };
+
+    fn try_from(byte: u8) -> Result<Kind, UnknownKind> {
+        match byte {
+            16 => Ok(Kind::Reception),
+            17 => Ok(Kind::Tick),
+            18 => Ok(Kind::Take),
+            19 => Ok(Kind::ExtendedReception),
+            20 => Ok(Kind::Response),
+            21 => Ok(Kind::NoResponse),
+            _ => Err(UnknownKind(byte)),
+        }
+    }
+}
+
+impl Kind {
+    // How many bytes an event record of a kind has, its kind byte among them.
+    #[tactic(auto, unfolding(crate::specs::Events::event_length, base::specs::Pick::pick))]
+    fn length(self) -> usize
+        ensures { (result ≡ event_length (byte_of self)) × (result ≤ 15) }
+    {
+        match self {
+            Kind::Reception => 13,
+            Kind::Tick => 1,
+            Kind::Take => 2,
+            Kind::ExtendedReception => 15,
+            Kind::Response => 14,
+            Kind::NoResponse => 4,
+        }
+    }
 }
 
 #[derive(Clone, Copy)]
@@ -41,51 +88,25 @@ pub enum Event {
     },
     // cut, or of an unknown kind
     Bad,
-    // the input ends here
-    End,
 }
 
-// Where the plan ends, with the fact that it ends within the input.
-pub fn front_of(input: &[u8]) -> Front
+// Where the plan ends and the events begin, with the fact that this is within the input; none where the input is bad. The plan is the input from 2 to there.
+#[tactic(auto, unfolding(crate::specs::Events::front_of, base::specs::Pick::pick))]
+pub fn front_of(input: &[u8]) -> Option<usize>
     ensures front { result ≡ front_of input.now }
     ensures inside { Inside input.now result }
 {
     if 65536 < input.len() {
-        return Front::Bad;
+        return None;
     }
     if input.len() < 2 {
-        return Front::Bad;
+        return None;
     }
     let end = 2 + base::two_at(input, 0);
     if input.len() < end {
-        return Front::Bad;
+        return None;
     }
-    Front::Plan { end }
-}
-
-// How many bytes an event record of a kind has; 0 where there is no such kind.
-fn event_length(kind: u8) -> usize
-    ensures { (result ≡ event_length kind) × (result ≤ 15) }
-{
-    if kind == 16 {
-        return 13;
-    }
-    if kind == 17 {
-        return 1;
-    }
-    if kind == 18 {
-        return 2;
-    }
-    if kind == 19 {
-        return 15;
-    }
-    if kind == 20 {
-        return 14;
-    }
-    if kind == 21 {
-        return 4;
-    }
-    0
+    Some(end)
 }
 
 // What records say behind their kind: the node, the ID.
@@ -93,7 +114,7 @@ fn node_at(input: &[u8], at: usize) -> usize
     requires { at + 2 ≤ length input.now }
     ensures { result ≡ byte_at input.now (at + 1) }
 {
-    base::wide(input[at + 1])
+    usize::from(input[at + 1])
 }
 
 fn id_at(input: &[u8], at: usize) -> usize
@@ -104,74 +125,68 @@ fn id_at(input: &[u8], at: usize) -> usize
 }
 
 // An event record of a kind that is whole.
-fn whole_event(kind: u8, input: &[u8], at: usize) -> Event
-    requires { at + event_length kind ≤ length input.now }
-    ensures { result ≡ whole_event kind input.now at }
+#[tactic(auto, unfolding(crate::specs::Events::event_length, crate::specs::Events::whole_event, base::specs::Pick::pick))]
+fn whole_event(kind: Kind, input: &[u8], at: usize) -> Event
+    requires { at + event_length (byte_of kind) ≤ length input.now }
+    ensures { result ≡ whole_event (byte_of kind) input.now at }
 {
-    if kind == 16 {
-        return Event::Reception {
+    match kind {
+        Kind::Reception => Event::Reception {
             node: node_at(input, at),
             id: Id::Standard(id_at(input, at)),
-            length: base::wide(input[at + 4]),
-        };
-    }
-    if kind == 17 {
-        return Event::Tick;
-    }
-    if kind == 18 {
-        return Event::Take {
+            length: usize::from(input[at + 4]),
+        },
+        Kind::Tick => Event::Tick,
+        Kind::Take => Event::Take {
             node: node_at(input, at),
-        };
-    }
-    if kind == 19 {
-        return Event::Reception {
+        },
+        Kind::ExtendedReception => Event::Reception {
             node: node_at(input, at),
             id: Id::Extended(base::four_at(input, at + 2)),
-            length: base::wide(input[at + 6]),
-        };
-    }
-    if kind == 20 {
-        return Event::Response {
+            length: usize::from(input[at + 6]),
+        },
+        Kind::Response => Event::Response {
             node: node_at(input, at),
             id: id_at(input, at),
-            length: base::wide(input[at + 4]),
+            length: usize::from(input[at + 4]),
             sum: input[at + 13],
-        };
-    }
-    if kind == 21 {
-        return Event::NoResponse {
+        },
+        Kind::NoResponse => Event::NoResponse {
             node: node_at(input, at),
             id: id_at(input, at),
-        };
+        },
     }
-    Event::Bad
 }
 
-// The event at a place, with the fact that it lies within the input.
-pub fn event_at(input: &[u8], at: usize) -> Event
+// The event at a place, with the fact that it lies within the input; none at the input's end.
+#[tactic(auto, using(crate::proofs::EventLaws::event_end, crate::proofs::EventLaws::event_cut, crate::proofs::EventLaws::event_whole, crate::proofs::EventLaws::event_unknown))]
+pub fn event_at(input: &[u8], at: usize) -> Option<Event>
     ensures event { result ≡ event_at input.now at }
     ensures within { Within input.now at result }
 {
     if input.len() <= at {
-        return Event::End;
+        return None;
     }
-    let kind = input[at];
-    if input.len() - at < event_length(kind) {
-        return Event::Bad;
+    let Ok(kind) = Kind::try_from(input[at]) else {
+        return Some(Event::Bad);
+    };
+    if input.len() - at < kind.length() {
+        return Some(Event::Bad);
     }
-    whole_event(kind, input, at)
+    Some(whole_event(kind, input, at))
 }
 
-// The payload that a reception or a response hands on whose length stands at `at`, put at the start of `out`; the answer is its length.
-pub fn payload_at(input: &[u8], at: usize, out: &mut [u8]) -> usize
-    requires { (at + 9 ≤ length input.now) × (9 ≤ length out.old) }
-    ensures { (Put out.old 0 (payload_at input.now at) out.new result) × (result ≤ 9) }
+// The payload that a reception or a response hands on whose length stands at `at`.
+#[tactic(auto, unfolding(crate::specs::Events::payload_at, base::specs::Pick::pick))]
+pub fn payload_at(input: &[u8], at: usize) -> &[u8]
+    requires { at + 9 ≤ length input.now }
+    ensures { result.now ≡ payload_at input.now at }
 {
-    let length = base::wide(input[at]);
+    let length = usize::from(input[at]);
     if 8 < length {
-        return put_word(out, 0, &[0u8; 9]);
+        return &[0u8; 9];
     }
     let start = at + 1;
     let end = start + length;
-    put_word(out, 0, &input[start..end])
+    &input[start..end]
 }

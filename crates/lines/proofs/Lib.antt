@@ -1,1 +1,2 @@
 pub mod LineCases
+mod LineLaws

@@ -22,9 +22,8 @@ use Rattle.answers.specs.declared.Timeout.TheVariants as silence
 use Rattle.answers.specs.declared.Framing.TheVariants.{Can, Lin}
 use Rattle.answers.specs.declared.Taken.TheVariants as taken
 use Rattle.answers.specs.Answers.{refusal_number, received_number, responded_number, silence_number}
-use Rattle.events.specs.declared.Event.TheVariants.{Reception, Tick, Take, Response, NoResponse, Bad, End}
-use Rattle.events.specs.declared.Front.TheVariants as front
-use Rattle.text.specs.Text.{ascii, glyph, decimal_in, decimal, hex_byte, each, spaced}
+use Rattle.events.specs.declared.Event.TheVariants.{Reception, Tick, Take, Response, NoResponse, Bad}
+use Rattle.text.specs.Text.{ascii, glyph, decimal_in, decimal, hex_byte, spaced}
 use Rattle.text.proofs.TextLaws.{decimal_one, decimal_more}
 use Rattle.lines.specs.Lines.{word_line, numbers_line, plan_line, rx_line, response_line, silence_line, tick_line, payload_text, spaced_id, frame_line, request_line}
 use Rattle.lines.specs.Lines.{take_line, bad_line}
@@ -85,7 +84,7 @@ pub listing_lines :
     ∷ ascii "rx 1 1\n"
     ∷ ascii "rx 2\n"
     ∷ []
-unfolding plan_line rx_line tick_line take_line frame_line payload_text word_line numbers_line received_number each spaced spaced_id decimal decimal_in hex_byte glyph
+unfolding plan_line rx_line tick_line take_line frame_line payload_text word_line numbers_line received_number spaced spaced_id decimal decimal_in hex_byte glyph
     pick
 listing_lines = refl
 
@@ -114,7 +113,7 @@ pub other_lines :
     ∷ ascii "take 255 2047 0 - 3\n"
     ∷ ascii "input bad\n"
     ∷ []
-unfolding plan_line rx_line tick_line take_line frame_line payload_text bad_line word_line numbers_line refusal_number number_of received_number each spaced
+unfolding plan_line rx_line tick_line take_line frame_line payload_text bad_line word_line numbers_line refusal_number number_of received_number spaced
     spaced_id decimal decimal_in glyph pick
 other_lines = refl
 
@@ -142,7 +141,7 @@ pub lin_lines :
     ∷ ascii "take request 7 59 8 2\n"
     ∷ ascii "take 1 2 1 12 0\n"
     ∷ []
-unfolding rx_line response_line silence_line take_line frame_line request_line payload_text numbers_line refusal_number responded_number silence_number each spaced
+unfolding rx_line response_line silence_line take_line frame_line request_line payload_text numbers_line refusal_number responded_number silence_number spaced
     spaced_id decimal decimal_in hex_byte glyph pick
 lin_lines = refl
 
@@ -168,7 +167,7 @@ pub extended_lines :
     ∷ ascii "take 0 e0 0 - 0\n"
     ∷ ascii "take 0 e536870911 0 - 0\n"
     ∷ []
-unfolding take_line frame_line payload_text each spaced spaced_id decimal_in hex_byte glyph pick
+unfolding take_line frame_line payload_text spaced spaced_id decimal_in hex_byte glyph pick
 extended_lines = rw (shown 0 (omega arith), shown 8 (omega arith), shown 32 (omega arith), shown 167248128 (omega arith), shown 536870911 (omega arith))
 
 -- the listing's input: the plan's length, the plan, the events
@@ -180,7 +179,7 @@ input =
     (0 ∷ 39 ∷ listing) ++ (18 ∷ 0 ∷ []) ++ reception 0x20 1 0x2c ++ (18 ∷ 0 ∷ 17 ∷ 17 ∷ 17 ∷ 18 ∷ 0 ∷ 17 ∷ []) ++ reception 0x20 1 0x2c ++ (18 ∷ 0 ∷ [])
     ++ reception 0x21 1 0x2c ++ reception 0x20 0 0
 
-pub listing_front : front_of input ≡ front.Plan 41
+pub listing_front : front_of input ≡ Some 41
 unfolding front_of pick
 listing_front = refl
 
@@ -199,19 +198,19 @@ pub listing_events :
     ∷ event_at input 92
     ∷ event_at input 105
     ∷ []
-    ≡ Take 0
-    ∷ Reception 0 (Standard 0x20) 1
-    ∷ Take 0
-    ∷ Tick
-    ∷ Tick
-    ∷ Tick
-    ∷ Take 0
-    ∷ Tick
-    ∷ Reception 0 (Standard 0x20) 1
-    ∷ Take 0
-    ∷ Reception 0 (Standard 0x21) 1
-    ∷ Reception 0 (Standard 0x20) 0
-    ∷ End
+    ≡ Some (Take 0)
+    ∷ Some (Reception 0 (Standard 0x20) 1)
+    ∷ Some (Take 0)
+    ∷ Some Tick
+    ∷ Some Tick
+    ∷ Some Tick
+    ∷ Some (Take 0)
+    ∷ Some Tick
+    ∷ Some (Reception 0 (Standard 0x20) 1)
+    ∷ Some (Take 0)
+    ∷ Some (Reception 0 (Standard 0x21) 1)
+    ∷ Some (Reception 0 (Standard 0x20) 0)
+    ∷ None
     ∷ []
 unfolding event_at whole_event event_length pick
 listing_events = refl
@@ -224,7 +223,7 @@ listing_payloads = refl
 abbrev lin_input : List ℕ
 lin_input = (20 ∷ 3 ∷ 0 ∷ 59 ∷ 2 ∷ 0xa1 ∷ 0xb2 ∷ 0 ∷ 0 ∷ 0 ∷ 0 ∷ 0 ∷ 0 ∷ 0x6d ∷ []) ++ (21 ∷ 4 ∷ 1 ∷ 2 ∷ [])
 
-pub lin_events : event_at lin_input 0 ∷ event_at lin_input 14 ∷ event_at lin_input 18 ∷ [] ≡ Response 3 59 2 0x6d ∷ NoResponse 4 258 ∷ End ∷ []
+pub lin_events : event_at lin_input 0 ∷ event_at lin_input 14 ∷ event_at lin_input 18 ∷ [] ≡ Some (Response 3 59 2 0x6d) ∷ Some (NoResponse 4 258) ∷ None ∷ []
 unfolding event_at whole_event event_length pick
 lin_events = refl
 
@@ -246,11 +245,11 @@ pub extended_events :
     ∷ event_at extended_input 43
     ∷ event_at extended_input 58
     ∷ []
-    ≡ Reception 1 (Extended 167248128) 1
-    ∷ Reception 1 (Extended 0x20) 0
-    ∷ Reception 0 (Standard 0x20) 1
-    ∷ Reception 1 (Extended 4294967295) 9
-    ∷ End
+    ≡ Some (Reception 1 (Extended 167248128) 1)
+    ∷ Some (Reception 1 (Extended 0x20) 0)
+    ∷ Some (Reception 0 (Standard 0x20) 1)
+    ∷ Some (Reception 1 (Extended 4294967295) 9)
+    ∷ None
     ∷ []
 unfolding event_at whole_event event_length pick
 extended_events = refl
@@ -272,14 +271,14 @@ extended_payloads = refl
 -- a payload of nine bytes, events that are cut or unknown, and input that is too short
 pub bad_cases :
     (payload_at (reception 0 9 1) 4 ≡ 0 ∷ 0 ∷ 0 ∷ 0 ∷ 0 ∷ 0 ∷ 0 ∷ 0 ∷ 0 ∷ [])
-    × (event_at (16 ∷ 0 ∷ []) 0 ≡ Bad)
-    × (event_at (18 ∷ []) 0 ≡ Bad)
-    × (event_at (19 ∷ 0 ∷ 0 ∷ 0 ∷ 0 ∷ 0 ∷ 0 ∷ 0 ∷ 0 ∷ 0 ∷ 0 ∷ 0 ∷ 0 ∷ 0 ∷ []) 0 ≡ Bad)
+    × (event_at (16 ∷ 0 ∷ []) 0 ≡ Some Bad)
+    × (event_at (18 ∷ []) 0 ≡ Some Bad)
+    × (event_at (19 ∷ 0 ∷ 0 ∷ 0 ∷ 0 ∷ 0 ∷ 0 ∷ 0 ∷ 0 ∷ 0 ∷ 0 ∷ 0 ∷ 0 ∷ 0 ∷ []) 0 ≡ Some Bad)
     × (payload_at (20 ∷ 0 ∷ 0 ∷ 0 ∷ 255 ∷ 1 ∷ 0 ∷ 0 ∷ 0 ∷ 0 ∷ 0 ∷ 0 ∷ 0 ∷ 0 ∷ []) 4 ≡ 0 ∷ 0 ∷ 0 ∷ 0 ∷ 0 ∷ 0 ∷ 0 ∷ 0 ∷ 0 ∷ [])
-    × (event_at (20 ∷ 0 ∷ 0 ∷ 0 ∷ 0 ∷ 0 ∷ 0 ∷ 0 ∷ 0 ∷ 0 ∷ 0 ∷ 0 ∷ 0 ∷ []) 0 ≡ Bad)
-    × (event_at (21 ∷ 0 ∷ 0 ∷ []) 0 ≡ Bad)
-    × (event_at (22 ∷ 0 ∷ 0 ∷ []) 0 ≡ Bad)
-    × (front_of (0 ∷ []) ≡ front.Bad)
-    × (front_of (0 ∷ 2 ∷ 1 ∷ []) ≡ front.Bad)
+    × (event_at (20 ∷ 0 ∷ 0 ∷ 0 ∷ 0 ∷ 0 ∷ 0 ∷ 0 ∷ 0 ∷ 0 ∷ 0 ∷ 0 ∷ 0 ∷ []) 0 ≡ Some Bad)
+    × (event_at (21 ∷ 0 ∷ 0 ∷ []) 0 ≡ Some Bad)
+    × (event_at (22 ∷ 0 ∷ 0 ∷ []) 0 ≡ Some Bad)
+    × (front_of (0 ∷ []) ≡ None)
+    × (front_of (0 ∷ 2 ∷ 1 ∷ []) ≡ None)
 unfolding payload_at event_at whole_event event_length front_of pick
 bad_cases = (refl, refl, refl, refl, refl, refl, refl, refl, refl, refl)

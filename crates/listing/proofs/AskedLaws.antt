@@ -5,14 +5,16 @@ use native.Mathlib.Omega.{arith}
 use lib.Dec.{leb, ltb, eqb}
 use lib.ListN.{length, take, drop}
 use lib.Seq.{get_or-drop}
+use Rattle.std.specs.Prelude.{Option, Some, None, IfSome}
+use Rattle.std.specs.Option.{option_map_or}
 use Rattle.base.specs.Numbers.{byte_at, two_at, Bytes}
 use Rattle.base.proofs.Picks.{both}
 use Rattle.facts.specs.Good.{Each}
 use Rattle.events.specs.declared.Event.{Event}
-use Rattle.events.specs.declared.Event.TheVariants.{Reception, Tick, Take, Response, NoResponse, Bad, End}
+use Rattle.events.specs.declared.Event.TheVariants.{Reception, Tick, Take, Response, NoResponse, Bad}
 use Rattle.events.specs.Events.{plan_of, event_length, whole_event, event_at, event_size}
 use Rattle.model.specs.Rules.{OfBytes}
-use Rattle.listing.specs.Asked.{Asked, asked_by, asked_in}
+use Rattle.listing.specs.Asked.{Asked, nothing, asked_by, asked_in}
 
 -- the ID of a LIN node's event is two bytes
 unfoldable pub TwoBytes : Event → Type 0
@@ -22,15 +24,14 @@ TwoBytes (Take node) = Unit {0}
 TwoBytes (Response node id size sum) = id < 65536
 TwoBytes (NoResponse node id) = id < 65536
 TwoBytes Bad = Unit {0}
-TwoBytes End = Unit {0}
 
-pub event_id : (input : List ℕ) (at : ℕ) → Bytes input → TwoBytes (event_at input at)
+pub event_id : (input : List ℕ) (at : ℕ) → Bytes input → IfSome (event_at input at) TwoBytes
 unfolding event_at whole_event TwoBytes
 event_id input at b =
     let kind = byte_at input at in
     let two : two_at input (at + 2) < 65536 = omega (arith, b (at + 2), b (at + 2 + 1)) in
-    both TwoBytes (leb (length input) at) _ _ tt
-    (both TwoBytes (ltb (length input - at) (event_length kind)) _ _ tt
+    both (λ read. IfSome read TwoBytes) (leb (length input) at) _ _ tt
+    (both (λ read. IfSome read TwoBytes) (ltb (length input - at) (event_length kind)) _ _ tt
     (both TwoBytes (eqb kind 16) _ _ tt
     (both TwoBytes (eqb kind 17) _ _ tt
     (both TwoBytes (eqb kind 18) _ _ tt
@@ -47,12 +48,17 @@ calls_by (Take node) input at rx rest h = (tt, h)
 calls_by (Response node id size sum) input at rx rest h = (tt, h)
 calls_by (NoResponse node id) input at rx rest h = (tt, h)
 calls_by Bad input at rx rest h = tt
-calls_by End input at rx rest h = tt
+
+calls_at : (read : Option Event) (bound : ℕ) (input : List ℕ) (at rx : ℕ) → ((next : ℕ) → Each OfBytes (asked_in bound input next rx).steps)
+    → Each OfBytes (option_map_or (λ e. asked_by e input at rx (asked_in bound input (at + event_size e) rx)) read nothing).steps
+unfolding Each
+calls_at None bound input at rx h = tt
+calls_at (Some e) bound input at rx h = calls_by e input at rx _ (h (at + event_size e))
 
 pub asked_calls : (bound : ℕ) (input : List ℕ) (at rx : ℕ) → Each OfBytes (asked_in bound input at rx).steps
 unfolding asked_in Each
 asked_calls zero input at rx = tt
-asked_calls (suc bound) input at rx = calls_by (event_at input at) input at rx _ (asked_calls bound input (at + event_size (event_at input at)) rx)
+asked_calls (suc bound) input at rx = calls_at (event_at input at) bound input at rx (λ next. asked_calls bound input next rx)
 
 -- the plan is a part of the input
 Bytes-take : (n : ℕ) (xs : List ℕ) → Bytes xs → Bytes (take n xs)

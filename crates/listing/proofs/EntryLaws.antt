@@ -17,6 +17,7 @@ use Rattle.records.specs.declared.record.Id.TheVariants.{Standard, Extended}
 use Rattle.records.specs.Ids.{behind_id}
 use Rattle.events.specs.declared.Event.{Event}
 use Rattle.events.specs.declared.Event.TheVariants as event
+use Rattle.std.specs.Prelude.{Some}
 use Rattle.events.specs.Events.{event_length, whole_event, event_at, payload_at}
 use Rattle.events.proofs.EventLaws.{no_length, no_event, event_cut, event_whole}
 use Rattle.listing.specs.Input.{Entry, reception, tick, take, response, no_response, reception_of, bytes_of, Whole, payload_of}
@@ -52,12 +53,12 @@ module _ (kind : ℕ) (xs rest : List ℕ) where
   kind_at : byte_at input (length xs) ≡ kind
   kind_at = behind xs (kind ∷ rest) (length xs) 0 (omega arith)
 
-  whole_at : event_length kind ≤ suc (length rest) → event_at input (length xs) ≡ whole_event kind input (length xs)
+  whole_at : event_length kind ≤ suc (length rest) → event_at input (length xs) ≡ Some (whole_event kind input (length xs))
   whole_at h =
       let fits : event_length (byte_at input (length xs)) ≤ length input - length xs = rw kind_at (omega (arith, long)) in
-      sym (event_whole input (length xs) (omega (arith, long)) fits) ∙ ap (λ (k : ℕ). whole_event k input (length xs)) kind_at
+      sym (event_whole input (length xs) (omega (arith, long)) fits) ∙ ap (λ (k : ℕ). Some (whole_event k input (length xs))) kind_at
 
-  cut_at : suc (length rest) < event_length kind → event_at input (length xs) ≡ event.Bad
+  cut_at : suc (length rest) < event_length kind → event_at input (length xs) ≡ Some event.Bad
   cut_at h =
       let lacks : length input - length xs < event_length (byte_at input (length xs)) = rw kind_at (omega (arith, long)) in
       sym (event_cut input (length xs) (omega (arith, long)) lacks)
@@ -91,7 +92,7 @@ four_read kind node id rest xs =
 sum_read : (bytes ys : List ℕ) (sum : ℕ) → length bytes ≡ 8 → byte_at ((bytes ++ sum ∷ []) ++ ys) 8 ≡ sum
 sum_read bytes ys sum w = rw (append_assoc bytes (sum ∷ []) ys) (behind bytes (sum ∷ ys) 8 0 (omega arith))
 
-pub entry_read : (e : Entry) (xs ys : List ℕ) → Whole e → event_at (xs ++ (bytes_of e ++ ys)) (length xs) ≡ event_of e
+pub entry_read : (e : Entry) (xs ys : List ℕ) → Whole e → event_at (xs ++ (bytes_of e ++ ys)) (length xs) ≡ Some (event_of e)
 unfolding event_of reception_of bytes_of Whole event_length whole_event pick
 entry_read (reception node (Standard id) size bytes) xs ys w =
     let rest : List ℕ = size ∷ (bytes ++ ys) in
@@ -105,7 +106,7 @@ entry_read (reception node (Extended id) size bytes) xs ys w =
     ∙ rw (behind_by xs (19 ∷ named) 1, four_read 19 node id rest xs, behind_by xs (19 ∷ named) 6) refl
 entry_read tick xs ys w = whole_at 17 xs ys (omega arith)
 entry_read (take node) xs ys w =
-    whole_at 18 xs (node ∷ ys) (omega arith) ∙ ap (λ (n : ℕ). event.Take n) (behind_by xs (18 ∷ node ∷ ys) 1)
+    whole_at 18 xs (node ∷ ys) (omega arith) ∙ ap (λ (n : ℕ). Some (event.Take n)) (behind_by xs (18 ∷ node ∷ ys) 1)
 entry_read (response node id size bytes sum) xs ys w =
     let rest : List ℕ = size ∷ ((bytes ++ sum ∷ []) ++ ys) in
     let all : List ℕ = 20 ∷ node ∷ id / 256 ∷ id % 256 ∷ rest in
@@ -143,13 +144,13 @@ reception_payload node id size bytes xs ys w =
 
 pub broken_read : (kind : ℕ) (rest xs : List ℕ) → (kind ≡ 16 → length rest < 12) → (kind ≡ 17 → ⊥) → (kind ≡ 18 → length rest < 1)
     → (kind ≡ 19 → length rest < 14) → (kind ≡ 20 → length rest < 13) → (kind ≡ 21 → length rest < 3)
-    → event_at (xs ++ kind ∷ rest) (length xs) ≡ event.Bad
+    → event_at (xs ++ kind ∷ rest) (length xs) ≡ Some event.Bad
 unfolding event_length pick
 broken_read kind rest xs h16 h17 h18 h19 h20 h21 =
     go (ℕ_discrete kind 16) (ℕ_discrete kind 18) (ℕ_discrete kind 19) (ℕ_discrete kind 20) (ℕ_discrete kind 21)
   where
     go : Dec (kind ≡ 16) → Dec (kind ≡ 18) → Dec (kind ≡ 19) → Dec (kind ≡ 20) → Dec (kind ≡ 21)
-        → event_at (xs ++ kind ∷ rest) (length xs) ≡ event.Bad
+        → event_at (xs ++ kind ∷ rest) (length xs) ≡ Some event.Bad
     go (yes e) d18 d19 d20 d21 = cut_at kind xs rest (rw e (omega (arith, h16 e)))
     go (no n16) (yes e) d19 d20 d21 = cut_at kind xs rest (rw e (omega (arith, h18 e)))
     go (no n16) (no n18) (yes e) d20 d21 = cut_at kind xs rest (rw e (omega (arith, h19 e)))
@@ -157,4 +158,4 @@ broken_read kind rest xs h16 h17 h18 h19 h20 h21 =
     go (no n16) (no n18) (no n19) (no n20) (yes e) = cut_at kind xs rest (rw e (omega (arith, h21 e)))
     go (no n16) (no n18) (no n19) (no n20) (no n21) =
         whole_at kind xs rest (omega (arith, no_length kind n16 h17 n18 n19 n20 n21))
-        ∙ sym (no_event kind n16 h17 n18 n19 n20 n21 (xs ++ kind ∷ rest) (length xs))
+        ∙ ap (λ (e : Event). Some e) (sym (no_event kind n16 h17 n18 n19 n20 n21 (xs ++ kind ∷ rest) (length xs)))

@@ -6,14 +6,13 @@ use native.Mathlib.Decide.{dec_lt}
 use native.Mathlib.Omega.{arith}
 use lib.ListN.{length, length-append}
 use lib.Seq.{take-append_seam}
-use Rattle.std.specs.Prelude.{Result, Ok, Err}
+use Rattle.std.specs.Prelude.{Some, None, Result, Ok, Err}
 use Rattle.base.specs.Pick.{pick}
 use Rattle.base.specs.Numbers.{two_at}
 use Rattle.facts.specs.Good.{Each}
 use Rattle.answers.specs.declared.Refusal.{Refusal}
 use Rattle.plan.specs.declared.verdict.PlanCounts.{PlanCounts}
 use Rattle.answers.specs.declared.RefusedPlan.{RefusedPlan}
-use Rattle.events.specs.declared.Front.TheVariants as front
 use Rattle.events.specs.Events.{front_of, plan_of}
 use Rattle.events.proofs.EventLaws.{front_long, front_cut, front_short, front_plan}
 use Rattle.lines.specs.Lines.{plan_line, bad_line}
@@ -28,13 +27,13 @@ use Rattle.listing.proofs.EntriesLaws.{bad, then, Ends, read, Ends-none, Ends-br
 abbrev ahead : List ℕ → List ℕ
 ahead plan = length plan / 256 ∷ length plan % 256 ∷ plan
 
-front_read : (plan events : List ℕ) → length (input_of plan events) ≤ 65536 → front_of (input_of plan events) ≡ front.Plan (length (ahead plan))
+front_read : (plan events : List ℕ) → length (input_of plan events) ≤ 65536 → front_of (input_of plan events) ≡ Some (length (ahead plan))
 front_read plan events h =
     let input = input_of plan events in
     let long : length input ≡ 2 + (length plan + length events) = omega (arith, length-append plan events) in
     let told : two_at input 0 ≡ length plan = omega arith in
     let ends : 2 + two_at input 0 ≡ length (ahead plan) = omega arith in
-    sym (front_plan input h (omega arith) (omega arith)).0 ∙ ap (λ (n : ℕ). front.Plan n) ends
+    sym (front_plan input h (omega arith) (omega arith)) ∙ ap (λ (n : ℕ). Some n) ends
 
 plan_read : (plan events : List ℕ) → plan_of (input_of plan events) (length (ahead plan)) ≡ plan
 plan_read plan events =
@@ -87,7 +86,7 @@ refused plan events why number e h =
     text_read plan events (Err (record { why = why; record_number = number })) e h ∙ append-nil (lines_of (told (opening plan ∷ [])))
     ∙ append-nil (plan_line (bench.opens closed plan)) ∙ ap plan_line e
 
-bad_front : (input : List ℕ) → front.Bad ≡ front_of input → model_output input ≡ bad_line
+bad_front : (input : List ℕ) → None ≡ front_of input → model_output input ≡ bad_line
 unfolding model_output front_text
 bad_front input e = rw (← e) refl
 
@@ -95,11 +94,11 @@ cut : (high low : ℕ) (rest : List ℕ) → length rest < high * 256 + low → 
 cut high low rest h = go (dec_lt 65536 (length (high ∷ low ∷ rest)))
   where
     go : Dec (65536 < length (high ∷ low ∷ rest)) → model_output (high ∷ low ∷ rest) ≡ bad_line
-    go (yes l) = bad_front (high ∷ low ∷ rest) (front_long (high ∷ low ∷ rest) l).0
-    go (no n) = bad_front (high ∷ low ∷ rest) (front_short (high ∷ low ∷ rest) (omega arith) (omega arith) (omega arith)).0
+    go (yes l) = bad_front (high ∷ low ∷ rest) (front_long (high ∷ low ∷ rest) l)
+    go (no n) = bad_front (high ∷ low ∷ rest) (front_short (high ∷ low ∷ rest) (omega arith) (omega arith) (omega arith))
 
 short : (input : List ℕ) → length input < 2 → model_output input ≡ bad_line
-short input h = bad_front input (front_cut input (omega arith) h).0
+short input h = bad_front input (front_cut input (omega arith) h)
 
 pub output_meets : OutputMeets
 output_meets =
@@ -107,7 +106,7 @@ output_meets =
       whole = whole;
       broken = broken;
       refused = refused;
-      long = λ input h. bad_front input (front_long input h).0;
+      long = λ input h. bad_front input (front_long input h);
       short = short;
       cut = cut;
     }

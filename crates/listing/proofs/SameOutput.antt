@@ -4,7 +4,8 @@ use mathlib.Core.List.{List, [], ◌∷◌, ◌++◌, append_assoc, append-nil}
 use Prim.Native.Nat.{ℕ, zero, suc, ◌+◌, ◌-◌, ◌%◌}
 use native.Mathlib.Omega.{arith}
 use lib.ListN.{length, replicate, length-replicate}
-use Rattle.std.specs.Prelude.{Result, Ok, Err}
+use Rattle.std.specs.Prelude.{Option, Some, None, IfSome, Result, Ok, Err}
+use Rattle.std.specs.Option.{option_map_or}
 use Rattle.base.specs.Pick.{pick}
 use Rattle.records.specs.Ids.{behind_id}
 use Rattle.plan.specs.declared.verdict.Verdict.{Verdict}
@@ -15,9 +16,7 @@ use Rattle.plan.specs.declared.verdict.PlanCounts.{PlanCounts}
 use Rattle.answers.specs.declared.RefusedPlan.{RefusedPlan}
 use Rattle.opening.specs.Opened.{opened_answer, opened_area}
 use Rattle.events.specs.declared.Event.{Event}
-use Rattle.events.specs.declared.Event.TheVariants.{Reception, Tick, Take, Response, NoResponse, Bad, End}
-use Rattle.events.specs.declared.Front.{Front}
-use Rattle.events.specs.declared.Front.TheVariants as front
+use Rattle.events.specs.declared.Event.TheVariants.{Reception, Tick, Take, Response, NoResponse, Bad}
 use Rattle.events.specs.Events.{front_of, plan_of, event_at, event_size, payload_at}
 use Rattle.lines.specs.Lines.{plan_line, bad_line}
 use Rattle.output.specs.Output as area
@@ -30,7 +29,7 @@ use Rattle.model.specs.Calls.{Call, reception, response, no_response, tick, take
 use Rattle.history.specs.Calls.{answer_in, area_after, reply_in, stepped, replies_in}
 use Rattle.refines.specs.Shows.{Marked}
 use Rattle.refines.proofs.All.{as_the_model}
-use Rattle.listing.specs.Asked.{Asked, first, asked_by, asked_in, asked_from}
+use Rattle.listing.specs.Asked.{Asked, nothing, first, asked_by, asked_in, asked_from}
 use Rattle.listing.specs.Output.{answer_line, line_of, lines_of, told, asked_of, text_of, front_text, model_output}
 use Rattle.listing.specs.SameOutput.{SameOutput}
 use Rattle.listing.proofs.AskedLaws.{TwoBytes, event_id, asked_calls, Bytes-plan}
@@ -73,14 +72,23 @@ one (NoResponse node id) bound input at rx a two rest =
     let same : id % 65536 ≡ id = omega arith in
     rw same (called (no_response node id) a _ (asked_in bound input (at + 4) rx) (rest (at + 4) _))
 one Bad bound input at rx a two rest = rw (none bound input (length input) rx a (omega arith)) (append-nil bad_line)
-one End bound input at rx a two rest = none bound input (length input) rx a (omega arith)
+
+-- the event at a place, or none
+at_place : (read : Option Event) (bound : ℕ) (input : List ℕ) (at rx : ℕ) (a : List ℕ) → IfSome read TwoBytes
+    → ((next : ℕ) (a' : List ℕ) → area.text_in bound input next rx a' ≡ written a' (asked_in bound input next rx))
+    → option_map_or (λ e. area.event_text e input at rx a) read []
+    ++ area.text_in bound input (option_map_or (λ e. area.event_next e input at) read (length input)) rx (option_map_or (λ e. area.event_area e input at rx a) read a)
+    ≡ written a (option_map_or (λ e. asked_by e input at rx (asked_in bound input (at + event_size e) rx)) read nothing)
+unfolding replies_in lines_of pick
+at_place None bound input at rx a two rest = none bound input (length input) rx a (omega arith)
+at_place (Some e) bound input at rx a two rest = one e bound input at rx a two rest
 
 events_text : (bound : ℕ) (input : List ℕ) (at rx : ℕ) (a : List ℕ) → Bytes input
     → area.text_in bound input at rx a ≡ written a (asked_in bound input at rx)
 unfolding area.text_in asked_in replies_in lines_of pick
 events_text zero input at rx a b = refl
 events_text (suc bound) input at rx a b =
-    one (event_at input at) bound input at rx a (event_id input at b) (λ next a'. events_text bound input next rx a' b)
+    at_place (event_at input at) bound input at rx a (event_id input at b) (λ next a'. events_text bound input next rx a' b)
 
 -- ---- the plan's line before them
 
@@ -119,10 +127,10 @@ opened_first plan steps =
     ap (λ (n : ℕ). opened (opened_answer (check_plan plan) n) ∷ replies_in (opened_area (opened_answer (check_plan plan) n) plan zeros) steps)
     (length-replicate {A = ℕ} shortest_area 0)
 
-by_front : (f : Front) (input : List ℕ) → Bytes input → area.front_text f input ≡ front_text f input
+by_front : (f : Option ℕ) (input : List ℕ) → Bytes input → area.front_text f input ≡ front_text f input
 unfolding area.front_text area.plan_text front_text text_of the_model Each OfBytes
-by_front front.Bad input b = refl
-by_front (front.Plan end) input b =
+by_front None input b = refl
+by_front (Some end) input b =
     let plan = plan_of input end in
     let o = opened_answer (check_plan plan) shortest_area in
     let asked = asked_of o input end in

@@ -1,10 +1,8 @@
 -- What the bench program writes for an input, over the model's answers and the lines. Nothing of an area's bytes stands in it.
-use Rattle.std.specs.Prelude.{ℕ, List, [], ◌∷◌, ◌++◌, Result, Ok, Err}
+use Rattle.std.specs.Prelude.{ℕ, List, [], ◌∷◌, ◌++◌, Option, Some, None, Result, Ok, Err}
 use Rattle.base.specs.Pick.{pick}
 use Rattle.plan.specs.declared.verdict.PlanCounts.{PlanCounts}
 use Rattle.answers.specs.declared.RefusedPlan.{RefusedPlan}
-use Rattle.events.specs.declared.Front.{Front}
-use Rattle.events.specs.declared.Front.TheVariants as front
 use Rattle.events.specs.Events.{front_of, plan_of}
 use Rattle.lines.specs.Lines.{plan_line, rx_line, response_line, silence_line, tick_line, take_line, bad_line}
 use Rattle.model.specs.Calls.{Answer, received, responded, silent, ticked, taken, full}
@@ -48,9 +46,9 @@ unfoldable pub text_of : List ℕ → Asked → List ℕ
 text_of plan asked = lines_of (told (opening plan ∷ asked.steps)) ++ pick asked.bad bad_line []
 
 -- "input over 65,536 bytes, or too short for the plan length or its stated plan, prints that line alone"
-unfoldable pub front_text : Front → List ℕ → List ℕ
-front_text front.Bad input = bad_line
-front_text (front.Plan end) input = text_of (plan_of input end) (asked_of (bench.opens closed (plan_of input end)) input end)
+unfoldable pub front_text : Option ℕ → List ℕ → List ℕ
+front_text None input = bad_line
+front_text (Some end) input = text_of (plan_of input end) (asked_of (bench.opens closed (plan_of input end)) input end)
 
 unfoldable pub model_output : List ℕ → List ℕ
 model_output input = front_text (front_of input) input

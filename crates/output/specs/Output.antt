@@ -1,5 +1,6 @@
 -- What the bench program writes for an input: "The first line is" the plan's, "Then one line per event", until the input ends or is bad.
-use Rattle.std.specs.Prelude.{ℕ, zero, suc, ◌+◌, ◌-◌, ◌%◌, List, [], ◌++◌, length, replicate, Result, Ok, Err}
+use Rattle.std.specs.Prelude.{ℕ, zero, suc, ◌+◌, ◌-◌, ◌%◌, List, [], ◌++◌, length, replicate, Option, Some, None, Result, Ok, Err}
+use Rattle.std.specs.Option.{option_map_or}
 use Rattle.records.specs.declared.record.Id.{Id}
 use Rattle.records.specs.Ids.{behind_id}
 use Rattle.plan.specs.Check.{check_plan}
@@ -12,9 +13,7 @@ use Rattle.polling.specs.Polling.{responded_answer, responded_area, silent_answe
 use Rattle.ticking.specs.Tick.{tick_answer, ticked_area, ticked_report}
 use Rattle.taking.specs.Taken.{taken_answer, taken_area, taken_payload}
 use Rattle.events.specs.declared.Event.{Event}
-use Rattle.events.specs.declared.Event.TheVariants.{Reception, Tick, Take, Response, NoResponse, Bad, End}
-use Rattle.events.specs.declared.Front.{Front}
-use Rattle.events.specs.declared.Front.TheVariants as front
+use Rattle.events.specs.declared.Event.TheVariants.{Reception, Tick, Take, Response, NoResponse, Bad}
 use Rattle.events.specs.Events.{front_of, plan_of, event_at, payload_at}
 use Rattle.lines.specs.Lines.{plan_line, rx_line, response_line, silence_line, tick_line, take_line, bad_line}
 
@@ -47,7 +46,6 @@ event_text (Take node) input at rx a = taken_text a node
 event_text (Response node id size sum) input at rx a = responded_text a node id (payload_at input (at + 4)) sum
 event_text (NoResponse node id) input at rx a = silent_text a node id
 event_text Bad input at rx a = bad_line
-event_text End input at rx a = []
 
 unfoldable pub event_area : Event → List ℕ → ℕ → ℕ → List ℕ → List ℕ
 event_area (Reception node id size) input at rx a = received_area a node id (payload_at input (at + behind_id id))
@@ -56,7 +54,6 @@ event_area (Take node) input at rx a = taken_area a node
 event_area (Response node id size sum) input at rx a = responded_area a node (id % 65536) (payload_at input (at + 4)) sum
 event_area (NoResponse node id) input at rx a = silent_area a node (id % 65536)
 event_area Bad input at rx a = a
-event_area End input at rx a = a
 
 -- where the next event begins; "A cut or unknown event record prints `input bad` and ends"
 unfoldable pub event_next : Event → List ℕ → ℕ → ℕ
@@ -66,17 +63,16 @@ event_next (Take node) input at = at + 2
 event_next (Response node id size sum) input at = at + 14
 event_next (NoResponse node id) input at = at + 4
 event_next Bad input at = length input
-event_next End input at = length input
 
--- the same of the event at a place
+-- the same of the event at a place; there is none at the input's end
 abbrev pub line_at : List ℕ → ℕ → ℕ → List ℕ → List ℕ
-line_at input at rx a = event_text (event_at input at) input at rx a
+line_at input at rx a = option_map_or (λ e. event_text e input at rx a) (event_at input at) []
 
 abbrev pub area_at : List ℕ → ℕ → ℕ → List ℕ → List ℕ
-area_at input at rx a = event_area (event_at input at) input at rx a
+area_at input at rx a = option_map_or (λ e. event_area e input at rx a) (event_at input at) a
 
 abbrev pub next_at : List ℕ → ℕ → ℕ
-next_at input at = event_next (event_at input at) input at
+next_at input at = option_map_or (λ e. event_next e input at) (event_at input at) (length input)
 
 -- ---- the events from a place on; the first argument bounds how many are done
 
@@ -101,9 +97,9 @@ open_text (Err refused) input end a = []
 unfoldable pub plan_text : Result PlanCounts RefusedPlan → List ℕ → ℕ → List ℕ
 plan_text answer input end = plan_line answer ++ open_text answer input end (opened_area answer (plan_of input end) (replicate shortest_area 0))
 
-unfoldable pub front_text : Front → List ℕ → List ℕ
-front_text front.Bad input = bad_line
-front_text (front.Plan end) input = plan_text (open_of input end) input end
+unfoldable pub front_text : Option ℕ → List ℕ → List ℕ
+front_text None input = bad_line
+front_text (Some end) input = plan_text (open_of input end) input end
 
 unfoldable pub bench_output : List ℕ → List ℕ
 bench_output input = front_text (front_of input) input

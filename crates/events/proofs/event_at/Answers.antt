@@ -1,15 +1,14 @@
--- `events::event_at` meets its contract: each return has passed the tests that the definition passes to the same event; that it lies
--- within the input is a law.
-use mathlib.Core.Path.{◌∙◌}
-use native.Mathlib.Omega.{arith}
-use Rattle.events.proofs.EventLaws.{event_within, event_end, event_cut, event_whole}
+-- That the event lies within the input is a law.
+use Rattle.std.proofs.Common.{rules, Some}
+use Rattle.events.specs.declared.Event.TheVariants.{Bad}
+use Rattle.events.proofs.EventLaws.{event_within, event_cut, event_whole, event_unknown}
 use Rattle.events.proofs.event_at.Goals as goal
 
-pub returns-then-input-at : goal.returns-then-input-at
-returns-then-input-at c = let all = event_within _ _ (event_end _ _ (omega arith)) in record { event = all.0; within = all.1 }
+pub returns-in_default-clause-within : goal.returns-in_default-clause-within
+returns-in_default-clause-within c = event_within c.args.input.now c.args.at {read = Some Bad} (search (rules, event_unknown))
 
-pub returns-then-input-at-2 : goal.returns-then-input-at-2
-returns-then-input-at-2 c = let all = event_within _ _ (event_cut _ _ (omega arith) (omega arith)) in record { event = all.0; within = all.1 }
+pub returns-then-input-at-2-clause-within : goal.returns-then-input-at-2-clause-within
+returns-then-input-at-2-clause-within c = event_within c.args.input.now c.args.at {read = Some Bad} (search (rules, event_cut))
 
-pub returns : goal.returns
-returns c = let all = event_within _ _ (c.whole_event.ensures ∙ event_whole _ _ (omega arith) (omega arith)) in record { event = all.0; within = all.1 }
+pub returns-clause-within : goal.returns-clause-within
+returns-clause-within c = event_within c.args.input.now c.args.at {read = Some c.whole_event.result} (search (rules, event_whole))

@@ -2,10 +2,12 @@
 ghost use Rattle.std.specs.Prelude.{◌≡◌, ◌+◌, ◌≤◌, ◌<◌, length};
 ghost use Rattle.records.specs.Ids.{behind_id};
 ghost use Rattle.records.specs.Kinds.{tx_fields, rx_fields, length_of, stage_of_kind, eight_at, tx_at, rx_at, tx_record, rx_record, fields_at};
+ghost use Rattle.records.specs.KindBytes.{byte_of};
 ghost use Rattle.records.specs.Kinds.{fault_stage, stage_of};
 ghost use Rattle.records.specs.Reading.{step_at, follower_at};
 ghost use Rattle.records.specs.declared.record.Record.TheVariants.{Signal, Destination};
 
+use crate::kind::Kind;
 use crate::record::{
     DestinationBody, Fault, Follower, Id, NodeBody, Record, RxFrame, SignalBody, TxFrame, TxNumber,
 };
@@ -131,96 +133,42 @@ pub const DESTINATION_BYTES: usize = 4;
 pub fn length_of(kind: u8) -> usize
     ensures { (result ≡ length_of kind) × (result ≤ 19) }
 {
-    if kind == 1 {
-        return HEAD_BYTES;
+    match Kind::try_from(kind) {
+        Ok(kind) => kind.length(),
+        Err(_) => 0,
     }
-    if kind == 2 {
-        return NODE_BYTES;
-    }
-    if kind == 3 {
-        return 4 + TX_FIELDS;
-    }
-    if kind == 4 {
-        return 4 + RX_FIELDS;
-    }
-    if kind == 5 {
-        return SIGNAL_BYTES;
-    }
-    if kind == 6 {
-        return DESTINATION_BYTES;
-    }
-    if kind == 7 {
-        return 6 + TX_FIELDS;
-    }
-    if kind == 8 {
-        return 6 + RX_FIELDS;
-    }
-    0
 }
 
 // The stage of a kind; 0 where there is no such kind.
 fn stage_of_kind(kind: u8) -> u8
     ensures { result ≡ stage_of_kind kind }
 {
-    if kind == 1 {
-        return HEAD_STAGE;
+    match Kind::try_from(kind) {
+        Ok(kind) => kind.stage(),
+        Err(_) => 0,
     }
-    if kind == 2 {
-        return NODE_STAGE;
-    }
-    if kind == 3 {
-        return TX_STAGE;
-    }
-    if kind == 4 {
-        return RX_STAGE;
-    }
-    if kind == 5 {
-        return SIGNAL_STAGE;
-    }
-    if kind == 6 {
-        return DESTINATION_STAGE;
-    }
-    if kind == 7 {
-        return TX_STAGE;
-    }
-    if kind == 8 {
-        return RX_STAGE;
-    }
-    0
 }
 
-// A record of a kind that is whole.
-fn fields_at(kind: u8, plan: &[u8], at: usize) -> Record
-    requires { at + length_of kind ≤ length plan.now }
-    ensures { result ≡ fields_at kind plan.now at }
+// A record of a kind that is whole. Each kind returns it, since one exit for all took 24 instructions more a record.
+#[tactic(auto, unfolding(crate::specs::Kinds::fields_at, crate::specs::Kinds::length_of, crate::specs::Ids::behind_id, crate::specs::Kinds::form_of, base::specs::Pick::pick))]
+fn fields_at(kind: Kind, plan: &[u8], at: usize) -> Record
+    requires { at + length_of (byte_of kind) ≤ length plan.now }
+    ensures { result ≡ fields_at (byte_of kind) plan.now at }
 {
-    if kind == 1 {
-        return Record::Head {
-            order: plan[at + 1],
-        };
+    match kind {
+        Kind::Head => {
+            return Record::Head {
+                order: plan[at + 1],
+            };
+        }
+        Kind::Node => return Record::Node(NodeBody { of: plan[at + 1] }),
+        Kind::Tx => return tx_record(Id::Standard(base::two_at(plan, at + 2)), plan, at),
+        Kind::Rx => return rx_record(Id::Standard(base::two_at(plan, at + 2)), plan, at),
+        Kind::Signal => return Record::Signal(signal_at(plan, at)),
+        Kind::Destination => return Record::Destination(destination_at(plan, at)),
+        Kind::ExtendedTx => return tx_record(Id::Extended(base::four_at(plan, at + 2)), plan, at),
+        Kind::ExtendedRx => return rx_record(Id::Extended(base::four_at(plan, at + 2)), plan, at),
     }
-    if kind == 2 {
-        return Record::Node(NodeBody { of: plan[at + 1] });
-    }
-    if kind == 3 {
-        return tx_record(Id::Standard(base::two_at(plan, at + 2)), plan, at);
-    }
-    if kind == 4 {
-        return rx_record(Id::Standard(base::two_at(plan, at + 2)), plan, at);
-    }
-    if kind == 5 {
-        return Record::Signal(signal_at(plan, at));
-    }
-    if kind == 6 {
-        return Record::Destination(destination_at(plan, at));
-    }
-    if kind == 7 {
-        return tx_record(Id::Extended(base::four_at(plan, at + 2)), plan, at);
-    }
-    if kind == 8 {
-        return rx_record(Id::Extended(base::four_at(plan, at + 2)), plan, at);
-    }
-    Record::Broken(Fault::BadKind)
 }
 
 // The stage of a record, which one that is cut short has by its kind byte; 0 where that is no kind, and at the end.
@@ -264,17 +212,17 @@ pub fn step_at(plan: &[u8], at: usize) -> Step
             next: at,
         };
     }
-    let kind = plan[at];
-    let size = length_of(kind);
-    if size == 0 {
+    let byte = plan[at];
+    let Ok(kind) = Kind::try_from(byte) else {
         return Step {
             found: Record::Broken(Fault::BadKind),
             next: at + 1,
         };
-    }
+    };
+    let size = kind.length();
     if plan.len() - at < size {
         return Step {
-            found: Record::Broken(Fault::Cut { kind }),
+            found: Record::Broken(Fault::Cut { kind: byte }),
             next: at + 1,
         };
     }

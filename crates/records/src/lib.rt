@@ -2,5 +2,6 @@
 #![tactic(auto)]
 
 pub mod decode;
+pub mod kind;
 pub mod reader;
 pub mod record;

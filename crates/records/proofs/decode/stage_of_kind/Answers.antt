@@ -1,42 +1,7 @@
--- At each return the kind is known, and the definition computes.
-use Rattle.std.proofs.Common.{refl}
-use Rattle.base.specs.Pick.{pick}
-use Rattle.records.proofs.RecordLaws.{no_stage, no_kind}
-use Rattle.records.specs.Kinds.{form_of, stage_of_kind}
+-- A byte that no kind has.
+use Rattle.records.proofs.RecordLaws.{no_stage}
+use Rattle.records.proofs.KindLaws.{none_decodes}
 use Rattle.records.proofs.decode.stage_of_kind.Goals as goal
 
-pub returns-then-kind-eq1 : goal.returns-then-kind-eq1
-unfolding stage_of_kind form_of pick
-returns-then-kind-eq1 c = rw c.if-kind-eq1.true refl
-
-pub returns-then-kind-eq2 : goal.returns-then-kind-eq2
-unfolding stage_of_kind form_of pick
-returns-then-kind-eq2 c = rw c.if-kind-eq2.true refl
-
-pub returns-then-kind-eq3 : goal.returns-then-kind-eq3
-unfolding stage_of_kind form_of pick
-returns-then-kind-eq3 c = rw c.if-kind-eq3.true refl
-
-pub returns-then-kind-eq4 : goal.returns-then-kind-eq4
-unfolding stage_of_kind form_of pick
-returns-then-kind-eq4 c = rw c.if-kind-eq4.true refl
-
-pub returns-then-kind-eq5 : goal.returns-then-kind-eq5
-unfolding stage_of_kind form_of pick
-returns-then-kind-eq5 c = rw c.if-kind-eq5.true refl
-
-pub returns-then-kind-eq6 : goal.returns-then-kind-eq6
-unfolding stage_of_kind form_of pick
-returns-then-kind-eq6 c = rw c.if-kind-eq6.true refl
-
-pub returns-then-kind-eq7 : goal.returns-then-kind-eq7
-unfolding stage_of_kind form_of pick
-returns-then-kind-eq7 c = rw c.if-kind-eq7.true refl
-
-pub returns-then-kind-eq8 : goal.returns-then-kind-eq8
-unfolding stage_of_kind form_of pick
-returns-then-kind-eq8 c = rw c.if-kind-eq8.true refl
-
-pub returns : goal.returns
-returns c = no_stage _ (no_kind c.if-kind-eq1.false c.if-kind-eq2.false c.if-kind-eq3.false c.if-kind-eq4.false
-    c.if-kind-eq5.false c.if-kind-eq6.false c.if-kind-eq7.false c.if-kind-eq8.false)
+pub returns-in-Err : goal.returns-in-Err
+returns-in-Err c = no_stage _ (none_decodes c.in-Err.ensures.1)

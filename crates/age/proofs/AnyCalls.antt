@@ -6,18 +6,17 @@ use Prim.Native.Nat.{ℕ, ◌<◌}
 use lib.Dec.{leb}
 use lib.ListN.{length}
 use borrow.Author.Tests.{leb-true}
-use Rattle.std.specs.Prelude.{Result}
+use Rattle.std.specs.Prelude.{Result, Ok, Err}
 use Rattle.base.specs.Numbers.{Bytes}
 use Rattle.base.proofs.Picks.{cases}
 use Rattle.records.specs.declared.record.Id.{Id}
 use Rattle.records.specs.declared.record.RxFrame.{RxFrame}
-use Rattle.plan.specs.declared.verdict.Verdict.{Verdict}
-use Rattle.plan.specs.declared.verdict.Verdict.TheVariants as verdict
+use Rattle.plan.specs.declared.verdict.PlanCounts.{PlanCounts}
+use Rattle.plan.specs.declared.verdict.BadRecord.{BadRecord}
 use Rattle.plan.specs.Check.{check_plan}
 use Rattle.plan.specs.Rows.{rows_of}
 use Rattle.area.specs.Layout.{area_length}
 use Rattle.area.specs.Claims.{RxEvent}
-use Rattle.plan.specs.declared.verdict.PlanCounts.{PlanCounts}
 use Rattle.answers.specs.declared.RefusedPlan.{RefusedPlan}
 use Rattle.opening.specs.Opened.{opened_answer, opened_area}
 use Rattle.tables.specs.Reads.{row_at}
@@ -60,19 +59,19 @@ module _ (x : RxFrame) (r : ℕ) where
   -- ---- an opening; a refused one leaves all
 
   after_opening :
-      (past : Past) (plan a : List ℕ) (last : Option Acceptance) → Then past a last → (v : Verdict) → check_plan plan ≡ v
+      (past : Past) (plan a : List ℕ) (last : Option Acceptance) → Then past a last → (v : Result PlanCounts BadRecord) → check_plan plan ≡ v
       → Then (opened_past (opened_answer v (length a)) plan past) (opened_area (opened_answer v (length a)) plan a) (by_opening (opened_answer v (length a)) last)
   unfolding opened_answer opened_area opened_past by_opening
-  after_opening past plan a last h (verdict.Good n t rows) e =
+  after_opening past plan a last h (Ok counts) e =
       cases (λ (o : Result PlanCounts RefusedPlan). Then (opened_past o plan past) (opened_area o plan a) (by_opening o last)) (leb area_length (length a)) _ _
       (λ long bytes l is.
       record {
         state = begun (said plan);
-        held = Held-opened plan a n t rows e (leb-true _ _ long) bytes;
+        held = Held-opened plan a counts.nodes counts.tx counts.rx e (leb-true _ _ long) bytes;
         knows = Knows-nothing plan r (begun (said plan));
       })
       (λ short. h)
-  after_opening past plan a last h (verdict.Refused reason number) e = h
+  after_opening past plan a last h (Err bad) e = h
 
   -- ---- a call
 

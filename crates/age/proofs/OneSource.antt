@@ -25,8 +25,7 @@ use Rattle.records.specs.Nodes.{type_of, is_lin, frame}
 use Rattle.plan.specs.Progress.{row_key, counted, row_after, after, start}
 use Rattle.plan.specs.Tests.{followed, is_kind, is_whole, may_stand, can_first, has_room, is_prescaler, zero_past, id_in_range, tx_in_range}
 use Rattle.plan.specs.Tests.{rx_in_range, in_range, is_lin_id, frame_fits, fits_node, rises, in_data, is_free, indicator_in_data, indicator_is_free}
-use Rattle.plan.specs.Check.{need, placed, judged, sizes_after, sets_after, ended, verdict_of, check_on, check_plan}
-use Rattle.plan.specs.declared.verdict.Verdict.TheVariants.{Good}
+use Rattle.plan.specs.Check.{good_with, need, placed, judged, sizes_after, sets_after, ended, verdict_of, check_on, check_plan}
 use Rattle.plan.specs.Rows.{copy, with_failure, claims_from, awaited, row_of, rows_from, rows_of, tx_frames, tx_of, nodes_in, types_in, order_in}
 use Rattle.facts.specs.Good.{Each}
 use Rattle.facts.specs.PlanCases.{head, node, signal, destination}
@@ -64,7 +63,7 @@ source e r p = (0x04 ∷ 0x00 ∷ 0x00 ∷ 0x20 ∷ 0x01 ∷ p ∷ r ∷ 0x00 �
 unfoldable pub one_source : ℕ → ℕ → ℕ → List ℕ
 one_source e r p = sink ++ source e r p
 
-pub one_source_good : (r : ℕ) {e p : ℕ} → Enable e → Prescaler p → check_plan (one_source e r p) ≡ Good 1 1 1
+pub one_source_good : (r : ℕ) {e p : ℕ} → Enable e → Prescaler p → check_plan (one_source e r p) ≡ good_with 1 1 1
 unfolding one_source pick digit set_digit owned clash form_of length_of eight_at tx_at rx_at behind_id tx_record rx_record fields_at record_at tx_kind rx_kind kind_of stage_of_kind stage_of size_of records_from
     records_at records at_most key_of row_key counted row_after after start followed is_kind is_whole may_stand can_first has_room is_prescaler zero_past id_in_range tx_in_range rx_in_range
     in_range is_lin_id frame_fits fits_node rises in_data is_free indicator_in_data indicator_is_free need placed judged sizes_after sets_after ended verdict_of check_on check_plan

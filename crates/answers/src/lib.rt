@@ -6,7 +6,7 @@ ghost use Rattle.plan.specs.Refusals.{number_of};
 ghost use Rattle.answers.specs.declared.Refusal.TheVariants.{Plan};
 ghost use Rattle.answers.specs.Answers.{refusal_number};
 
-use plan::verdict::Reason;
+use plan::verdict::{BadRecord, Reason};
 use records::record::{Id, RxNumber, TxNumber};
 
 // Why a call is refused.
@@ -62,6 +62,17 @@ impl From<Reason> for Refusal {
 pub struct RefusedPlan {
     pub why: Refusal,
     pub record_number: usize,
+}
+
+impl From<BadRecord> for RefusedPlan {
+    ghost from_gives = { λ bad refused. refused ≡ record { why = Plan bad.reason; record_number = bad.record_number } };
+
+    fn from(bad: BadRecord) -> RefusedPlan {
+        RefusedPlan {
+            why: Refusal::Plan(bad.reason),
+            record_number: bad.record_number,
+        }
+    }
 }
 
 // What a reception does.

@@ -2,8 +2,7 @@
 use Rattle.std.specs.Prelude.{◌≡◌, List, [], ◌∷◌, ◌++◌, ℕ}
 use Rattle.records.specs.declared.record.NodeType.TheVariants.{Can, Lin}
 use Rattle.records.specs.Records.{records}
-use Rattle.plan.specs.declared.verdict.Verdict.TheVariants.{Good}
-use Rattle.plan.specs.Check.{check_plan}
+use Rattle.plan.specs.Check.{good_with, check_plan}
 use Rattle.plan.specs.Rows.{copy, failure, Claim, Row, rows_of, claims_of, tx_of, nodes_in, types_in, order_in}
 use Rattle.facts.specs.Good.{sizes_of}
 use Rattle.facts.specs.PlanCases.{node, lin, tx, rx, signal, destination, listing}
@@ -37,7 +36,7 @@ numbered (r ∷ rows) = (r.number, r.frame.size) ∷ numbered rows
 
 pub record Written : Type 0 where
   pub document : claims_of listing ≡ failed 0 0 15 ∷ copied 0 2 4 0 6 ∷ []
-  pub good : check_plan several ≡ Good 2 3 3
+  pub good : check_plan several ≡ good_with 2 3 3
   pub order : order_in (records several) ≡ 1
   pub nodes : nodes_in (records several) ≡ 2
   pub types : types_in (records several) ≡ Can ∷ Lin ∷ []

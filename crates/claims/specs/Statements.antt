@@ -7,8 +7,7 @@ use Rattle.records.specs.declared.record.Record.{Record}
 use Rattle.records.specs.declared.record.Record.TheVariants.{Head}
 use Rattle.records.specs.Records.{records}
 use Rattle.records.specs.Kinds.{node_stage}
-use Rattle.plan.specs.declared.verdict.Verdict.TheVariants.{Good}
-use Rattle.plan.specs.Check.{check_plan}
+use Rattle.plan.specs.Check.{good_with, check_plan}
 use Rattle.plan.specs.Rows.{Claim, Row, rows_from, rows_of, all_claims, claims_of, tx_frames, tx_of, nodes_in, types_in, order_in}
 use Rattle.facts.specs.Good.{Each, count_of, Holds}
 use Rattle.claims.specs.Claims.{Whole, Own, TypesOf, FramesOf, ClaimsOf, RowsOf, Regular, Lawful}
@@ -80,4 +79,4 @@ pub record Said (plan : List ℕ) : Type 0 where
   pub owners : (t b : ℕ) → Owner (records plan) t b ↔ ((c : Claim) × Has (claims_of plan) c × Holds c t b)
 
 abbrev pub GoodSaid : Type 0
-GoodSaid = (plan : List ℕ) (n t r : ℕ) → check_plan plan ≡ Good n t r → Said plan
+GoodSaid = (plan : List ℕ) (n t r : ℕ) → check_plan plan ≡ good_with n t r → Said plan

@@ -7,18 +7,17 @@ use native.Mathlib.Omega.{arith}
 use borrow.Author.Tests.{leb-true, ltb-true}
 use lib.Dec.{leb, ltb}
 use lib.ListN.{length}
-use Rattle.std.specs.Prelude.{Result}
+use Rattle.std.specs.Prelude.{Result, Ok, Err}
 use Rattle.base.specs.Numbers.{byte_at, Bytes}
 use Rattle.base.proofs.Picks.{both, cases}
 use Rattle.base.proofs.Ranges.{at_most-le}
-use Rattle.plan.specs.declared.verdict.Verdict.{Verdict}
-use Rattle.plan.specs.declared.verdict.Verdict.TheVariants as verdict
+use Rattle.plan.specs.declared.verdict.PlanCounts.{PlanCounts}
+use Rattle.plan.specs.declared.verdict.BadRecord.{BadRecord}
 use Rattle.plan.specs.Check.{check_plan}
 use Rattle.facts.proofs.Bounds.{good_bounds}
 use Rattle.area.specs.Layout.{area_length, node_count_byte, marked, order, node_count, claims}
 use Rattle.area.proofs.Kept.{Kept, Kept-refl, Kept-then, Kept-dequeued, Kept-all_done, in_plan, marked_kept}
 use Rattle.area.proofs.NarrowLaws.{narrow_claims}
-use Rattle.plan.specs.declared.verdict.PlanCounts.{PlanCounts}
 use Rattle.answers.specs.declared.RefusedPlan.{RefusedPlan}
 use Rattle.opening.specs.Opened.{opened_answer, opened_area}
 use Rattle.opening.proofs.OpenedLaws.{opened-length, opened_past_area, opened-marked}
@@ -75,14 +74,14 @@ opening_stays plan a = let p = go (check_plan plan) refl in record { size = p.0;
         (length (opened_area x plan a) ≡ length a) × (marked a ≡ true → marked (opened_area x plan a) ≡ true)
         × ((j : ℕ) → area_length ≤ j → byte_at (opened_area x plan a) j ≡ byte_at a j)
 
-    go : (v : Verdict) → check_plan plan ≡ v → P (opened_answer v (length a))
-    go (verdict.Good n t r) e =
-        let bounds = good_bounds plan n t r e in
+    go : (v : Result PlanCounts BadRecord) → check_plan plan ≡ v → P (opened_answer v (length a))
+    go (Ok counts) e =
+        let bounds = good_bounds plan counts.nodes counts.tx counts.rx e in
         cases P (leb area_length (length a)) _ _
         (λ l.
         (opened-length plan a, (λ m. opened-marked plan a (leb-true _ _ l)), opened_past_area plan a (omega (arith, bounds.short))))
         (λ l. (refl, (λ m. m), (λ j h. refl)))
-    go (verdict.Refused why number) e = (refl, (λ m. m), (λ j h. refl))
+    go (Err bad) e = (refl, (λ m. m), (λ j h. refl))
 
 pub step_stays : (c : Step) (a : List ℕ) → Bytes a → Stays c a
 unfolding area_after stepped

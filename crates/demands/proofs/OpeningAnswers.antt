@@ -12,10 +12,10 @@ use Rattle.base.proofs.Picks.{picks, passes}
 use Rattle.records.specs.Records.{records}
 use Rattle.plan.specs.declared.verdict.PlanCounts.{PlanCounts}
 use Rattle.plan.specs.declared.verdict.Reason.{Reason}
-use Rattle.plan.specs.declared.verdict.Verdict.{Verdict}
-use Rattle.plan.specs.declared.verdict.Verdict.TheVariants as verdict
+use Rattle.plan.specs.declared.verdict.BadRecord.{BadRecord}
 use Rattle.plan.specs.Refusals.{number_of}
-use Rattle.plan.specs.Check.{check_plan}
+use Rattle.plan.specs.Check.{good_with, refused_at, check_plan}
+use Rattle.plan.proofs.Verdicts.{same_refusal}
 use Rattle.facts.specs.Good.{count_of}
 use Rattle.area.specs.Layout.{area_length}
 use Rattle.refusals.specs.Table.{Refuses, Unrefused}
@@ -48,7 +48,7 @@ counts_in (Err refused) = record { nodes = 0; tx = 0; rx = 0 }
 module _ (plan a : List ℕ) where
   -- ---- a plan that the check refuses
 
-  module _ (why : Reason) (k : ℕ) (e : check_plan plan ≡ verdict.Refused why k) where
+  module _ (why : Reason) (k : ℕ) (e : check_plan plan ≡ refused_at why k) where
     refused : Refuses plan (number_of why) k
     refused = (refused_exactly plan (number_of why) k).1 (why, e, refl)
 
@@ -60,10 +60,9 @@ module _ (plan a : List ℕ) where
     one reason at r =
         let x = (refused_exactly plan (number_of reason) at).0 r in
         let y = one_reason x.0 reason x.2 in
-        let z : verdict.Refused why k ≡ verdict.Refused x.0 at = sym e ∙ x.1 in
-        let u : why ≡ reason = cc in
-        let v : k ≡ at = cc in
-        rw (u, v)
+        let same = same_refusal (sym e ∙ x.1) in
+        let u : why ≡ reason = same.0 ∙ y in
+        rw (u, same.1)
 
     of_refused : OpeningAnswers plan a
     of_refused =
@@ -86,7 +85,7 @@ module _ (plan a : List ℕ) where
 
   -- ---- a plan that it calls good
 
-  module _ (u : Unrefused plan) (e : check_plan plan ≡ verdict.Good (count_of 2 (records plan)) (count_of 3 (records plan)) (count_of 4 (records plan))) where
+  module _ (u : Unrefused plan) (e : check_plan plan ≡ good_with (count_of 2 (records plan)) (count_of 3 (records plan)) (count_of 4 (records plan))) where
     of_good : (t : Bool) → leb area_length (length a) ≡ t → OpeningAnswers plan a
     unfolding opened_answer
     of_good true l =
@@ -120,7 +119,7 @@ module _ (plan a : List ℕ) where
   pub opening_answers : OpeningAnswers plan a
   opening_answers = go (check_plan plan) refl
     where
-      go : (v : Verdict) → check_plan plan ≡ v → OpeningAnswers plan a
-      go (verdict.Refused why k) e = of_refused why k e
-      go (verdict.Good n t r) e =
-          let u = good_unrefused plan n t r e in of_good u ((good_exactly plan).1 u) (leb area_length (length a)) refl
+      go : (v : Result PlanCounts BadRecord) → check_plan plan ≡ v → OpeningAnswers plan a
+      go (Err bad) e = of_refused bad.reason bad.record_number e
+      go (Ok counts) e =
+          let u = good_unrefused plan counts.nodes counts.tx counts.rx e in of_good u ((good_exactly plan).1 u) (leb area_length (length a)) refl

@@ -4,8 +4,7 @@ use Rattle.bits.specs.Payload.{copied}
 use Rattle.clock.specs.Counter.{counter_next, counter_after, handled}
 use Rattle.clock.specs.Ticks.{expiries}
 use Rattle.plan.specs.declared.verdict.Reason.TheVariants.{Short, Order, Data}
-use Rattle.plan.specs.declared.verdict.Verdict.TheVariants.{Good, Refused}
-use Rattle.plan.specs.Check.{check_plan}
+use Rattle.plan.specs.Check.{good_with, refused_at, check_plan}
 use Rattle.facts.specs.PlanCases.{head, node, rx, signal}
 
 -- "Cases 1-4 copy from byte 2C, position 2, size 4, to position 6 of two bytes." Order 0 is big, 1 little.
@@ -37,10 +36,10 @@ pub record TwelveCases : Type 0 where
   -- 9. prescaler 10, 5 loaded between ticks 3 and 4: expires at tick 50, and at no other of the 47 ticks from 4 on
   pub nine : (reload : ℕ) → expiries 10 4 47 (record { reload = reload; count = 5 }) ≡ 50 ∷ []
   -- 10. position 60 in 8 bytes: size 4 fits, 5 is refusal 7
-  pub ten : (check_plan (head ++ node ++ rx 0 0x00 0x20 8 0 0 ++ signal 60 4) ≡ Good 1 0 1)
-      × (check_plan (head ++ node ++ rx 0 0x00 0x20 8 0 0 ++ signal 60 5) ≡ Refused Data 3)
+  pub ten : (check_plan (head ++ node ++ rx 0 0x00 0x20 8 0 0 ++ signal 60 4) ≡ good_with 1 0 1)
+      × (check_plan (head ++ node ++ rx 0 0x00 0x20 8 0 0 ++ signal 60 5) ≡ refused_at Data 3)
   -- 11. rows (0, 7FF) then (1, 000) are good; a row twice is refusal 6
-  pub eleven : (check_plan (head ++ node ++ node ++ rx 0 0x07 0xFF 8 0 0 ++ rx 1 0x00 0x00 8 0 0) ≡ Good 2 0 2)
-      × (check_plan (head ++ node ++ rx 0 0x00 0x20 1 0 0 ++ rx 0 0x00 0x20 1 0 0) ≡ Refused Order 3)
+  pub eleven : (check_plan (head ++ node ++ node ++ rx 0 0x07 0xFF 8 0 0 ++ rx 1 0x00 0x00 8 0 0) ≡ good_with 2 0 2)
+      × (check_plan (head ++ node ++ rx 0 0x00 0x20 1 0 0 ++ rx 0 0x00 0x20 1 0 0) ≡ refused_at Order 3)
   -- 12. empty plan: refusal 1 at record 0; head alone is good
-  pub twelve : (check_plan [] ≡ Refused Short 0) × (check_plan head ≡ Good 0 0 0)
+  pub twelve : (check_plan [] ≡ refused_at Short 0) × (check_plan head ≡ good_with 0 0 0)

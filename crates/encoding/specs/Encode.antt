@@ -10,8 +10,7 @@ use Rattle.records.specs.declared.record.Fault.TheVariants.{End, BadKind, Cut}
 use Rattle.records.specs.Views.{on_tx, on_broken}
 use Rattle.records.specs.Kinds.{length_of, kind_of}
 use Rattle.records.specs.Records.{record_at, size_of, records, eight_bytes}
-use Rattle.plan.specs.declared.verdict.Verdict.TheVariants.{Good}
-use Rattle.plan.specs.Check.{check_plan}
+use Rattle.plan.specs.Check.{good_with, check_plan}
 use Rattle.facts.specs.Good.{Each}
 
 -- ---- the bytes of a record: its kind, then its fields in the order of document 01's table
@@ -72,7 +71,7 @@ EncodesDecoded = (plan : List ℕ) → Bytes plan → Each Whole (records plan) 
 
 -- so it is with a good plan
 abbrev pub EncodesGood : Type 0
-EncodesGood = (plan : List ℕ) (n t r : ℕ) → Bytes plan → check_plan plan ≡ Good n t r → encode (records plan) ≡ plan
+EncodesGood = (plan : List ℕ) (n t r : ℕ) → Bytes plan → check_plan plan ≡ good_with n t r → encode (records plan) ≡ plan
 
 -- ---- "records of one kind byte and a fixed body": what the readers know of a record's kind and size is what the encoder gives
 

@@ -1,14 +1,14 @@
 -- A plan that the check calls good has all the facts.
-use mathlib.Core.Path.{◌≡◌}
+use mathlib.Core.Path.{◌≡◌, sym, ◌∙◌}
 use mathlib.Core.List.{List, [], ◌∷◌}
 use Prim.Native.Nat.{ℕ, ◌<◌}
 use native.Mathlib.Omega.{arith}
 use lib.ListN.{length}
 use Rattle.records.specs.declared.record.Record.{Record}
 use Rattle.records.specs.Records.{records}
-use Rattle.plan.specs.declared.verdict.Verdict.TheVariants.{Good}
 use Rattle.plan.specs.Progress.{start}
-use Rattle.plan.specs.Check.{check_plan}
+use Rattle.plan.proofs.Verdicts.{same_counts}
+use Rattle.plan.specs.Check.{good_with, check_plan}
 use Rattle.plan.specs.Rows.{rows_of, claims_of, tx_frames, tx_of, nodes_in, types_in}
 use Rattle.facts.specs.Good.{Each, Along, InPlace, LinLast, InRange, InLinRange, Counted, sizes_of, GoodPlan}
 use Rattle.facts.specs.Statements.{Answered, GoodFacts}
@@ -101,16 +101,14 @@ module _ (plan : List ℕ) (h : Passes start zeros zeros (records plan)) where
         followed = passes_followed (records plan) start zeros zeros h;
       }
 
-  answered : (n t r : ℕ) → check_plan plan ≡ Good n t r → Answered plan n t r
+  answered : (n t r : ℕ) → check_plan plan ≡ good_with n t r → Answered plan n t r
   unfolding start tx_of rows_of check_plan
   answered n t r e =
       let k = totals (records plan) 0 start.counts place in
       let c = finally start.counts (records plan) in
-      let g : check_plan plan ≡ Good c.nodes c.tx c.rx = passes_good (records plan) start zeros zeros h in
-      let en : n ≡ c.nodes = cc in
-      let et : t ≡ c.tx = cc in
-      let er : r ≡ c.rx = cc in
-      record { nodes = omega arith; tx = omega arith; rx = omega (arith, rows_count (records plan) 0 0 place) }
+      let g : check_plan plan ≡ good_with c.nodes c.tx c.rx = passes_good (records plan) start zeros zeros h in
+      let same = same_counts (sym e ∙ g) in
+      record { nodes = omega (arith, same); tx = omega (arith, same); rx = omega (arith, same, rows_count (records plan) 0 0 place) }
 
 pub good_facts : GoodFacts
 unfolding check_plan

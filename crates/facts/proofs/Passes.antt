@@ -10,15 +10,14 @@ use Rattle.base.proofs.Apart.{differ}
 use Rattle.base.specs.Pick.{pick}
 use Rattle.records.specs.declared.record.Record.{Record}
 use Rattle.plan.specs.declared.verdict.Reason.{Reason}
-use Rattle.plan.specs.declared.verdict.Verdict.{Verdict}
-use Rattle.plan.specs.declared.verdict.Verdict.TheVariants.{Good, Refused}
+use Rattle.plan.specs.declared.verdict.PlanCounts.{PlanCounts}
 use Rattle.plan.specs.declared.progress.Counts.{Counts}
 use Rattle.plan.specs.declared.progress.Progress.{Progress}
 use Rattle.plan.specs.declared.verdict.BadRecord.{BadRecord}
 use Rattle.plan.specs.Progress.{counted, after}
 use Rattle.plan.specs.Tests.{followed}
 use Rattle.plan.proofs.CheckLaws.{Passed, passed}
-use Rattle.plan.specs.Check.{need, placed, judged, sizes_after, sets_after, ended, verdict_of, check_on}
+use Rattle.plan.specs.Check.{good_with, refused_at, need, placed, judged, sizes_after, sets_after, ended, verdict_of, check_on}
 
 -- ---- every record passes all its tests
 
@@ -40,27 +39,27 @@ sizes_finally c sizes (r ∷ rs) = sizes_finally (counted c r) (sizes_after c.tx
 
 module _ (n t r : ℕ) where
   judged_good :
-      (p : Progress) (sizes sets : List ℕ) (x : Record) (rest : Verdict) → verdict_of (judged p sizes sets x) rest ≡ Good n t r
-      → Passed p sizes sets x × (rest ≡ Good n t r)
+      (p : Progress) (sizes sets : List ℕ) (x : Record) (rest : Result PlanCounts BadRecord) → verdict_of (judged p sizes sets x) rest ≡ good_with n t r
+      → Passed p sizes sets x × (rest ≡ good_with n t r)
   unfolding verdict_of
   judged_good p sizes sets x rest e = go (judged p sizes sets x) refl e
     where
-      go : (y : Result Progress BadRecord) → judged p sizes sets x ≡ y → verdict_of y rest ≡ Good n t r → Passed p sizes sets x × (rest ≡ Good n t r)
+      go : (y : Result Progress BadRecord) → judged p sizes sets x ≡ y → verdict_of y rest ≡ good_with n t r → Passed p sizes sets x × (rest ≡ good_with n t r)
       go (Ok q) is e = ((passed p sizes sets x q is).0, e)
       go (Err bad) is e = absurd (differ cc)
 
   -- a choice that is good, where one side is a refusal
-  pick_good : (b : Bool) (v : Verdict) (a : Reason) (k : ℕ) → pick b v (Refused a k) ≡ Good n t r → (b ≡ true) × (v ≡ Good n t r)
+  pick_good : (b : Bool) (v : Result PlanCounts BadRecord) (a : Reason) (k : ℕ) → pick b v (refused_at a k) ≡ good_with n t r → (b ≡ true) × (v ≡ good_with n t r)
   unfolding pick
   pick_good true v a k e = (refl, e)
   pick_good false v a k e = absurd (differ cc)
 
-  pick_left : (b : Bool) (v : Verdict) (a : Reason) (k : ℕ) → pick b (Refused a k) v ≡ Good n t r → (b ≡ false) × (v ≡ Good n t r)
+  pick_left : (b : Bool) (v : Result PlanCounts BadRecord) (a : Reason) (k : ℕ) → pick b (refused_at a k) v ≡ good_with n t r → (b ≡ false) × (v ≡ good_with n t r)
   unfolding pick
   pick_left true v a k e = absurd (differ cc)
   pick_left false v a k e = (refl, e)
 
-  ended_good : (p : Progress) → ended p ≡ Good n t r → (followed p.row 0 ≡ true) × (0 < p.number)
+  ended_good : (p : Progress) → ended p ≡ good_with n t r → (followed p.row 0 ≡ true) × (0 < p.number)
   unfolding ended
   ended_good p e =
       let a = pick_good _ _ _ _ e in
@@ -68,7 +67,7 @@ module _ (n t r : ℕ) where
       let d = eqb-false p.number 0 b.0 in
       (a.0, omega arith)
 
-  pub good_passes : (rs : List Record) (p : Progress) (sizes sets : List ℕ) → check_on p sizes sets rs ≡ Good n t r → Passes p sizes sets rs
+  pub good_passes : (rs : List Record) (p : Progress) (sizes sets : List ℕ) → check_on p sizes sets rs ≡ good_with n t r → Passes p sizes sets rs
   unfolding check_on Passes
   good_passes [] p sizes sets e = ended_good p e
   good_passes (x ∷ rs) p sizes sets e = let h = judged_good p sizes sets x _ e in (h.0, good_passes rs _ _ _ h.1)
@@ -82,7 +81,7 @@ passed_judged p sizes sets r h =
 
 pub passes_good :
     (rs : List Record) (p : Progress) (sizes sets : List ℕ) → Passes p sizes sets rs
-    → check_on p sizes sets rs ≡ Good (finally p.counts rs).nodes (finally p.counts rs).tx (finally p.counts rs).rx
+    → check_on p sizes sets rs ≡ good_with (finally p.counts rs).nodes (finally p.counts rs).tx (finally p.counts rs).rx
 unfolding check_on Passes finally ended pick verdict_of after
 passes_good [] p sizes sets h = let m = h.1 in rw (h.0, ne_eqb p.number 0 (omega arith))
 passes_good (r ∷ rs) p sizes sets h = rw (passed_judged p sizes sets r h.0) (passes_good rs _ _ _ h.1)

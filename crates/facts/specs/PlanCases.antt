@@ -1,14 +1,14 @@
 -- Small plans with the verdict of each: every refusal number, document 01's cases 10, 11 and 12, the plan of its listing, plans with LIN nodes, and plans
 -- with 29-bit IDs.
-use Rattle.std.specs.Prelude.{◌≡◌, List, [], ◌∷◌, ◌++◌, ℕ}
+use Rattle.std.specs.Prelude.{◌≡◌, List, [], ◌∷◌, ◌++◌, ℕ, Result}
 use Rattle.plan.specs.declared.verdict.Reason.TheVariants.{Short, Kind, Place, Count, Range, Order, Data, Owner, Indicator}
-use Rattle.plan.specs.declared.verdict.Verdict.{Verdict}
-use Rattle.plan.specs.declared.verdict.Verdict.TheVariants.{Good, Refused}
-use Rattle.plan.specs.Check.{check_plan}
+use Rattle.plan.specs.declared.verdict.PlanCounts.{PlanCounts}
+use Rattle.plan.specs.declared.verdict.BadRecord.{BadRecord}
+use Rattle.plan.specs.Check.{good_with, refused_at, check_plan}
 
 pub record PlanCase : Type 0 where
   pub plan : List ℕ
-  pub verdict : Verdict
+  pub verdict : Result PlanCounts BadRecord
 
 -- ---- the bytes of records, with what the cases vary
 
@@ -89,88 +89,88 @@ pumps =
 abbrev pub plan_cases : List PlanCase
 plan_cases =
     -- 1: the input is empty (case 12), or the record runs past its end
-    record { plan = []; verdict = Refused Short 0 }
-    ∷ record { plan = head ++ 0x02 ∷ []; verdict = Refused Short 1 }
+    record { plan = []; verdict = refused_at Short 0 }
+    ∷ record { plan = head ++ 0x02 ∷ []; verdict = refused_at Short 1 }
     -- 2: the kind is not 1 to 8
-    ∷ record { plan = head ++ 0x09 ∷ []; verdict = Refused Kind 1 }
+    ∷ record { plan = head ++ 0x09 ∷ []; verdict = refused_at Kind 1 }
     -- 3: the kind may not stand here
-    ∷ record { plan = node; verdict = Refused Place 0 }
-    ∷ record { plan = head ++ head; verdict = Refused Place 1 }
+    ∷ record { plan = node; verdict = refused_at Place 0 }
+    ∷ record { plan = head ++ head; verdict = refused_at Place 1 }
     -- 4: seventeen nodes
     ∷ record {
       plan = head ++ node ++ node ++ node ++ node ++ node ++ node ++ node ++ node ++ node ++ node ++ node ++ node ++ node ++ node ++ node ++ node ++ node;
-      verdict = Refused Count 17;
+      verdict = refused_at Count 17;
     }
     -- 5: an order of 2; a node that there is not
-    ∷ record { plan = 0x01 ∷ 0x02 ∷ []; verdict = Refused Range 0 }
-    ∷ record { plan = head ++ node ++ rx 1 0x00 0x20 1 0 0; verdict = Refused Range 2 }
+    ∷ record { plan = 0x01 ∷ 0x02 ∷ []; verdict = refused_at Range 0 }
+    ∷ record { plan = head ++ node ++ rx 1 0x00 0x20 1 0 0; verdict = refused_at Range 2 }
     -- 6: a row twice (case 11)
-    ∷ record { plan = head ++ node ++ rx 0 0x00 0x20 1 0 0 ++ rx 0 0x00 0x20 1 0 0; verdict = Refused Order 3 }
+    ∷ record { plan = head ++ node ++ rx 0 0x00 0x20 1 0 0 ++ rx 0 0x00 0x20 1 0 0; verdict = refused_at Order 3 }
     -- 7: a signal passes its frame's data; a destination does; the Tx frame does not exist
-    ∷ record { plan = plain ++ signal 5 4; verdict = Refused Data 4 }
-    ∷ record { plan = plain ++ signal 2 4 ++ destination 0 13; verdict = Refused Data 5 }
-    ∷ record { plan = plain ++ signal 2 4 ++ destination 1 0; verdict = Refused Data 5 }
+    ∷ record { plan = plain ++ signal 5 4; verdict = refused_at Data 4 }
+    ∷ record { plan = plain ++ signal 2 4 ++ destination 0 13; verdict = refused_at Data 5 }
+    ∷ record { plan = plain ++ signal 2 4 ++ destination 1 0; verdict = refused_at Data 5 }
     -- 8: a destination's bit has an owner; a failure bit's has
-    ∷ record { plan = plain ++ signal 2 4 ++ destination 0 6 ++ destination 0 9; verdict = Refused Owner 6 }
-    ∷ record { plan = failing 9 ++ signal 2 4 ++ destination 0 6; verdict = Refused Owner 5 }
+    ∷ record { plan = plain ++ signal 2 4 ++ destination 0 6 ++ destination 0 9; verdict = refused_at Owner 6 }
+    ∷ record { plan = failing 9 ++ signal 2 4 ++ destination 0 6; verdict = refused_at Owner 5 }
     -- 9: the end, or another record, in place of the signal; in place of the destination; the position passes the Tx data
-    ∷ record { plan = failing 15; verdict = Refused Indicator 3 }
-    ∷ record { plan = failing 15 ++ rx 0 0x00 0x21 1 0 0; verdict = Refused Indicator 3 }
-    ∷ record { plan = failing 15 ++ signal 2 4; verdict = Refused Indicator 3 }
-    ∷ record { plan = failing 15 ++ signal 2 4 ++ signal 2 4; verdict = Refused Indicator 3 }
-    ∷ record { plan = failing 16 ++ signal 2 4 ++ destination 0 6; verdict = Refused Indicator 5 }
+    ∷ record { plan = failing 15; verdict = refused_at Indicator 3 }
+    ∷ record { plan = failing 15 ++ rx 0 0x00 0x21 1 0 0; verdict = refused_at Indicator 3 }
+    ∷ record { plan = failing 15 ++ signal 2 4; verdict = refused_at Indicator 3 }
+    ∷ record { plan = failing 15 ++ signal 2 4 ++ signal 2 4; verdict = refused_at Indicator 3 }
+    ∷ record { plan = failing 16 ++ signal 2 4 ++ destination 0 6; verdict = refused_at Indicator 5 }
     -- case 10: position 60 in 8 bytes: size 4 fits, 5 is refusal 7
-    ∷ record { plan = head ++ node ++ rx 0 0x00 0x20 8 0 0 ++ signal 60 4; verdict = Good 1 0 1 }
-    ∷ record { plan = head ++ node ++ rx 0 0x00 0x20 8 0 0 ++ signal 60 5; verdict = Refused Data 3 }
+    ∷ record { plan = head ++ node ++ rx 0 0x00 0x20 8 0 0 ++ signal 60 4; verdict = good_with 1 0 1 }
+    ∷ record { plan = head ++ node ++ rx 0 0x00 0x20 8 0 0 ++ signal 60 5; verdict = refused_at Data 3 }
     -- case 11: rows (0, 7FF) then (1, 000) are good
-    ∷ record { plan = head ++ node ++ node ++ rx 0 0x07 0xFF 8 0 0 ++ rx 1 0x00 0x00 8 0 0; verdict = Good 2 0 2 }
+    ∷ record { plan = head ++ node ++ node ++ rx 0 0x07 0xFF 8 0 0 ++ rx 1 0x00 0x00 8 0 0; verdict = good_with 2 0 2 }
     -- case 12: a head alone is good
-    ∷ record { plan = head; verdict = Good 0 0 0 }
+    ∷ record { plan = head; verdict = good_with 0 0 0 }
     -- the plan of the listing
-    ∷ record { plan = listing; verdict = Good 1 1 1 }
-    ∷ record { plan = pumps; verdict = Good 2 2 1 }
+    ∷ record { plan = listing; verdict = good_with 1 1 1 }
+    ∷ record { plan = pumps; verdict = good_with 2 2 1 }
     -- document 02, Ticket 2. 3: a CAN node after a LIN node, before 4
-    ∷ record { plan = head ++ lin ++ node; verdict = Refused Place 2 }
-    ∷ record { plan = head ++ sixteen ++ node; verdict = Refused Place 17 }
-    ∷ record { plan = head ++ sixteen ++ lin; verdict = Refused Count 17 }
+    ∷ record { plan = head ++ lin ++ node; verdict = refused_at Place 2 }
+    ∷ record { plan = head ++ sixteen ++ node; verdict = refused_at Place 17 }
+    ∷ record { plan = head ++ sixteen ++ lin; verdict = refused_at Count 17 }
     -- 5: a type that there is not, also after a LIN node
-    ∷ record { plan = head ++ 0x02 ∷ 0x02 ∷ []; verdict = Refused Range 1 }
-    ∷ record { plan = head ++ lin ++ 0x02 ∷ 0x02 ∷ []; verdict = Refused Range 2 }
+    ∷ record { plan = head ++ 0x02 ∷ 0x02 ∷ []; verdict = refused_at Range 1 }
+    ∷ record { plan = head ++ lin ++ 0x02 ∷ 0x02 ∷ []; verdict = refused_at Range 2 }
     -- 5: ID 60, or size 0, on a LIN node; on a CAN node both are good
-    ∷ record { plan = head ++ node ++ lin ++ lin_tx 60 8; verdict = Refused Range 3 }
-    ∷ record { plan = head ++ node ++ lin ++ rx 1 0x00 60 8 0 0; verdict = Refused Range 3 }
-    ∷ record { plan = head ++ node ++ lin ++ lin_tx 59 0; verdict = Refused Range 3 }
-    ∷ record { plan = head ++ node ++ lin ++ rx 1 0x00 59 0 0 0; verdict = Refused Range 3 }
-    ∷ record { plan = head ++ node ++ lin ++ lin_tx 59 9; verdict = Refused Range 3 }
-    ∷ record { plan = head ++ node ++ node ++ lin_tx 60 0 ++ rx 1 0x00 60 0 0 0; verdict = Good 2 1 1 }
+    ∷ record { plan = head ++ node ++ lin ++ lin_tx 60 8; verdict = refused_at Range 3 }
+    ∷ record { plan = head ++ node ++ lin ++ rx 1 0x00 60 8 0 0; verdict = refused_at Range 3 }
+    ∷ record { plan = head ++ node ++ lin ++ lin_tx 59 0; verdict = refused_at Range 3 }
+    ∷ record { plan = head ++ node ++ lin ++ rx 1 0x00 59 0 0 0; verdict = refused_at Range 3 }
+    ∷ record { plan = head ++ node ++ lin ++ lin_tx 59 9; verdict = refused_at Range 3 }
+    ∷ record { plan = head ++ node ++ node ++ lin_tx 60 0 ++ rx 1 0x00 60 0 0 0; verdict = good_with 2 1 1 }
     -- ID 59, sizes 1 and 8
-    ∷ record { plan = head ++ node ++ lin ++ lin_tx 59 1 ++ lin_tx 59 8; verdict = Good 2 2 0 }
-    ∷ record { plan = head ++ node ++ lin ++ rx 1 0x00 0 1 0 0 ++ rx 1 0x00 59 8 0 0; verdict = Good 2 0 2 }
+    ∷ record { plan = head ++ node ++ lin ++ lin_tx 59 1 ++ lin_tx 59 8; verdict = good_with 2 2 0 }
+    ∷ record { plan = head ++ node ++ lin ++ rx 1 0x00 0 1 0 0 ++ rx 1 0x00 59 8 0 0; verdict = good_with 2 0 2 }
     -- LIN nodes alone, and after CAN nodes, with frames on both
-    ∷ record { plan = head ++ lin ++ lin; verdict = Good 2 0 0 }
-    ∷ record { plan = head ++ node ++ lin ++ tx 0 ++ lin_tx 0 1; verdict = Good 2 2 0 }
-    ∷ record { plan = head ++ node ++ lin ++ tx 8 ++ rx 0 0x00 60 8 0 0 ++ rx 1 0x00 59 8 1 63 ++ signal 0 8 ++ destination 0 0; verdict = Good 2 1 2 }
+    ∷ record { plan = head ++ lin ++ lin; verdict = good_with 2 0 0 }
+    ∷ record { plan = head ++ node ++ lin ++ tx 0 ++ lin_tx 0 1; verdict = good_with 2 2 0 }
+    ∷ record { plan = head ++ node ++ lin ++ tx 8 ++ rx 0 0x00 60 8 0 0 ++ rx 1 0x00 59 8 1 63 ++ signal 0 8 ++ destination 0 0; verdict = good_with 2 1 2 }
     -- document 02, Ticket 6. 2: "2 begins past the new kinds"; 1: both, cut; 3: a Tx frame after an Rx frame
-    ∷ record { plan = head ++ node ++ 0x09 ∷ []; verdict = Refused Kind 2 }
-    ∷ record { plan = head ++ node ++ 0x07 ∷ 0x00 ∷ []; verdict = Refused Short 2 }
-    ∷ record { plan = head ++ node ++ 0x08 ∷ 0x00 ∷ []; verdict = Refused Short 2 }
-    ∷ record { plan = head ++ node ++ rx 0 0x00 0x20 1 0 0 ++ extended_tx 0 0 0 0 0; verdict = Refused Place 3 }
+    ∷ record { plan = head ++ node ++ 0x09 ∷ []; verdict = refused_at Kind 2 }
+    ∷ record { plan = head ++ node ++ 0x07 ∷ 0x00 ∷ []; verdict = refused_at Short 2 }
+    ∷ record { plan = head ++ node ++ 0x08 ∷ 0x00 ∷ []; verdict = refused_at Short 2 }
+    ∷ record { plan = head ++ node ++ rx 0 0x00 0x20 1 0 0 ++ extended_tx 0 0 0 0 0; verdict = refused_at Place 3 }
     -- 5: IDs "0 to 536,870,911"; a node that there is not; "5 for these on a LIN node"
-    ∷ record { plan = head ++ node ++ extended_tx 0 0x1F 0xFF 0xFF 0xFF ++ extended_rx 0 0x1F 0xFF 0xFF 0xFF; verdict = Good 1 1 1 }
-    ∷ record { plan = head ++ node ++ extended_tx 0 0x20 0x00 0x00 0x00; verdict = Refused Range 2 }
-    ∷ record { plan = head ++ node ++ extended_rx 0 0x20 0x00 0x00 0x00; verdict = Refused Range 2 }
-    ∷ record { plan = head ++ node ++ extended_rx 0 0xFF 0xFF 0xFF 0xFF; verdict = Refused Range 2 }
-    ∷ record { plan = head ++ node ++ extended_rx 1 0 0 0 0; verdict = Refused Range 2 }
-    ∷ record { plan = head ++ lin ++ extended_tx 0 0 0 0 1; verdict = Refused Range 2 }
-    ∷ record { plan = head ++ lin ++ extended_rx 0 0 0 0 1; verdict = Refused Range 2 }
+    ∷ record { plan = head ++ node ++ extended_tx 0 0x1F 0xFF 0xFF 0xFF ++ extended_rx 0 0x1F 0xFF 0xFF 0xFF; verdict = good_with 1 1 1 }
+    ∷ record { plan = head ++ node ++ extended_tx 0 0x20 0x00 0x00 0x00; verdict = refused_at Range 2 }
+    ∷ record { plan = head ++ node ++ extended_rx 0 0x20 0x00 0x00 0x00; verdict = refused_at Range 2 }
+    ∷ record { plan = head ++ node ++ extended_rx 0 0xFF 0xFF 0xFF 0xFF; verdict = refused_at Range 2 }
+    ∷ record { plan = head ++ node ++ extended_rx 1 0 0 0 0; verdict = refused_at Range 2 }
+    ∷ record { plan = head ++ lin ++ extended_tx 0 0 0 0 1; verdict = refused_at Range 2 }
+    ∷ record { plan = head ++ lin ++ extended_rx 0 0 0 0 1; verdict = refused_at Range 2 }
     -- 6: "11-bit rows come before 29-bit ones, each in ascending order"
-    ∷ record { plan = head ++ node ++ extended_rx 0 0 0 0 0x1F ++ rx 0 0x00 0x20 1 0 0; verdict = Refused Order 3 }
-    ∷ record { plan = head ++ node ++ extended_rx 0 0 0 0 0x20 ++ extended_rx 0 0 0 0 0x20; verdict = Refused Order 3 }
-    ∷ record { plan = head ++ node ++ extended_rx 0 0 1 0 0 ++ extended_rx 0 0 0 0xFF 0xFF; verdict = Refused Order 3 }
-    ∷ record { plan = head ++ node ++ extended_rx 0 0x1F 0xFF 0xFF 0xFE ++ extended_rx 0 0x1F 0xFF 0xFF 0xFF; verdict = Good 1 0 2 }
-    ∷ record { plan = head ++ node ++ rx 0 0x07 0xFF 1 0 0 ++ extended_rx 0 0 0 0 0; verdict = Good 1 0 2 }
-    ∷ record { plan = head ++ node ++ node ++ extended_rx 0 0x1F 0xFF 0xFF 0xFF ++ rx 1 0x00 0x00 1 0 0; verdict = Good 2 0 2 }
-    ∷ record { plan = bridge; verdict = Good 1 1 2 }
+    ∷ record { plan = head ++ node ++ extended_rx 0 0 0 0 0x1F ++ rx 0 0x00 0x20 1 0 0; verdict = refused_at Order 3 }
+    ∷ record { plan = head ++ node ++ extended_rx 0 0 0 0 0x20 ++ extended_rx 0 0 0 0 0x20; verdict = refused_at Order 3 }
+    ∷ record { plan = head ++ node ++ extended_rx 0 0 1 0 0 ++ extended_rx 0 0 0 0xFF 0xFF; verdict = refused_at Order 3 }
+    ∷ record { plan = head ++ node ++ extended_rx 0 0x1F 0xFF 0xFF 0xFE ++ extended_rx 0 0x1F 0xFF 0xFF 0xFF; verdict = good_with 1 0 2 }
+    ∷ record { plan = head ++ node ++ rx 0 0x07 0xFF 1 0 0 ++ extended_rx 0 0 0 0 0; verdict = good_with 1 0 2 }
+    ∷ record { plan = head ++ node ++ node ++ extended_rx 0 0x1F 0xFF 0xFF 0xFF ++ rx 1 0x00 0x00 1 0 0; verdict = good_with 2 0 2 }
+    ∷ record { plan = bridge; verdict = good_with 1 1 2 }
     ∷ []
 
 abbrev pub VerdictsHold : List PlanCase → Type 0

@@ -3,11 +3,10 @@ use Rattle.std.specs.Prelude.{◌≡◌, List, [], ◌∷◌, ◌++◌, ℕ, ◌
 use Rattle.records.specs.declared.record.Record.{Record}
 use Rattle.records.specs.Records.{records}
 use Rattle.plan.specs.declared.verdict.Reason.{Reason}
-use Rattle.plan.specs.declared.verdict.Verdict.TheVariants.{Good, Refused}
 use Rattle.plan.specs.declared.progress.Progress.{Progress}
 use Rattle.plan.specs.declared.verdict.BadRecord.{BadRecord}
 use Rattle.plan.specs.Progress.{after, start}
-use Rattle.plan.specs.Check.{refused_at, judged, sizes_after, sets_after, check_plan}
+use Rattle.plan.specs.Check.{good_with, refused_at, judged, sizes_after, sets_after, check_plan}
 use Rattle.plan.specs.Rows.{width_of, Claim, Row, rows_of, claims_of, tx_of, nodes_in}
 use Rattle.facts.specs.Good.{Each, Holds, GoodPlan}
 use Rattle.facts.specs.PlanCases.{plan_cases, VerdictsHold}
@@ -21,17 +20,17 @@ pub record Answered (plan : List ℕ) (n t r : ℕ) : Type 0 where
 -- ---- a plan that the check calls good has all the facts
 
 abbrev pub GoodFacts : Type 0
-GoodFacts = (plan : List ℕ) (n t r : ℕ) → check_plan plan ≡ Good n t r → GoodPlan plan × Answered plan n t r
+GoodFacts = (plan : List ℕ) (n t r : ℕ) → check_plan plan ≡ good_with n t r → GoodPlan plan × Answered plan n t r
 
 -- ---- and a plan that has all the facts is good, so that nothing else is refused
 
 abbrev pub FactsGood : Type 0
-FactsGood = (plan : List ℕ) → GoodPlan plan → check_plan plan ≡ Good (nodes_in (records plan)) (length (tx_of plan)) (length (rows_of plan))
+FactsGood = (plan : List ℕ) → GoodPlan plan → check_plan plan ≡ good_with (nodes_in (records plan)) (length (tx_of plan)) (length (rows_of plan))
 
 -- ---- so a plan that is refused lacks one of them
 
 abbrev pub RefusedLacks : Type 0
-RefusedLacks = (plan : List ℕ) (reason : Reason) (number : ℕ) → check_plan plan ≡ Refused reason number → GoodPlan plan → ⊥
+RefusedLacks = (plan : List ℕ) (reason : Reason) (number : ℕ) → check_plan plan ≡ refused_at reason number → GoodPlan plan → ⊥
 
 -- ---- "The first bad record decides."
 
@@ -68,7 +67,7 @@ AllGo s (r ∷ rs) = (judged_in s r ≡ Ok (after s.progress r)) × AllGo (stepp
 abbrev pub FirstBad : Type 0
 FirstBad =
     (plan : List ℕ) (before rest : List Record) (r : Record) (reason : Reason) (number : ℕ) → records plan ≡ before ++ r ∷ rest
-    → AllGo begun before → judged_in (state_after begun before) r ≡ refused_at reason number → check_plan plan ≡ Refused reason number
+    → AllGo begun before → judged_in (state_after begun before) r ≡ refused_at reason number → check_plan plan ≡ refused_at reason number
 
 -- ---- bounds of a good plan
 
@@ -85,7 +84,7 @@ pub record Bounds (plan : List ℕ) (n t r : ℕ) : Type 0 where
   pub claims : Each Small (claims_of plan)
 
 abbrev pub GoodBounds : Type 0
-GoodBounds = (plan : List ℕ) (n t r : ℕ) → check_plan plan ≡ Good n t r → Bounds plan n t r
+GoodBounds = (plan : List ℕ) (n t r : ℕ) → check_plan plan ≡ good_with n t r → Bounds plan n t r
 
 -- ---- "No bit has two owners": claims that hold one bit are one claim
 

@@ -7,15 +7,14 @@ use Prim.Native.Nat.{ℕ}
 use lib.Dec.{leb}
 use lib.ListN.{length}
 use borrow.Author.Tests.{leb-true}
-use Rattle.std.specs.Prelude.{Result}
+use Rattle.std.specs.Prelude.{Result, Ok, Err}
 use Rattle.base.proofs.Picks.{cases}
-use Rattle.plan.specs.declared.verdict.Verdict.{Verdict}
-use Rattle.plan.specs.declared.verdict.Verdict.TheVariants as verdict
-use Rattle.plan.specs.Check.{check_plan}
+use Rattle.plan.specs.declared.verdict.PlanCounts.{PlanCounts}
+use Rattle.plan.specs.declared.verdict.BadRecord.{BadRecord}
+use Rattle.plan.specs.Check.{good_with, check_plan}
 use Rattle.facts.specs.Good.{GoodPlan}
 use Rattle.facts.proofs.GoodFacts.{good_facts}
 use Rattle.area.specs.Layout.{area_length, LongEnough}
-use Rattle.plan.specs.declared.verdict.PlanCounts.{PlanCounts}
 use Rattle.answers.specs.declared.RefusedPlan.{RefusedPlan}
 use Rattle.area.specs.Claims.{RxEvent}
 use Rattle.opening.specs.Opened.{opened, opened_answer, opened_area}
@@ -46,7 +45,7 @@ module _ (Q : List ℕ → List RxEvent → List ℕ → Type 0)
 
   -- ---- an opening
 
-  begun : (plan a : List ℕ) (n t r : ℕ) → check_plan plan ≡ verdict.Good n t r → LongEnough a → Held Q plan [] (opened plan a)
+  begun : (plan a : List ℕ) (n t r : ℕ) → check_plan plan ≡ good_with n t r → LongEnough a → Held Q plan [] (opened plan a)
   begun plan a n t r e long =
       let good = (good_facts plan n t r e).0 in
       let x = opened_reads plan a n t r e long in
@@ -54,14 +53,14 @@ module _ (Q : List ℕ → List RxEvent → List ℕ → Type 0)
 
   -- a refused one leaves the past and the area
   after_opening :
-      (past : Past) (plan a : List ℕ) → Then past a → (v : Verdict) → check_plan plan ≡ v
+      (past : Past) (plan a : List ℕ) → Then past a → (v : Result PlanCounts BadRecord) → check_plan plan ≡ v
       → Then (opened_past (opened_answer v (length a)) plan past) (opened_area (opened_answer v (length a)) plan a)
   unfolding opened_answer opened_area opened_past
-  after_opening past plan a h (verdict.Good n t r) e =
+  after_opening past plan a h (Ok counts) e =
       cases (λ (x : Result PlanCounts RefusedPlan). Then (opened_past x plan past) (opened_area x plan a)) (leb area_length (length a)) _ _
-      (λ long. begun plan a n t r e (leb-true _ _ long))
+      (λ long. begun plan a counts.nodes counts.tx counts.rx e (leb-true _ _ long))
       (λ short. h)
-  after_opening past plan a h (verdict.Refused reason number) e = h
+  after_opening past plan a h (Err bad) e = h
 
   -- ---- a later call
 

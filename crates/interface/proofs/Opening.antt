@@ -8,13 +8,12 @@ use Rattle.std.specs.Prelude.{Result, Ok, Err}
 use Rattle.base.specs.Pick.{pick}
 use Rattle.base.proofs.Picks.{both}
 use Rattle.base.proofs.Ranges.{at_most_is}
-use Rattle.plan.specs.declared.verdict.Verdict.{Verdict}
-use Rattle.plan.specs.declared.verdict.Verdict.TheVariants as verdict
+use Rattle.plan.specs.declared.verdict.PlanCounts.{PlanCounts}
+use Rattle.plan.specs.declared.verdict.BadRecord.{BadRecord}
 use Rattle.plan.specs.Check.{check_plan}
 use Rattle.facts.proofs.Bounds.{good_bounds}
 use Rattle.answers.specs.declared.Refusal.{Refusal}
 use Rattle.answers.specs.declared.Refusal.TheVariants.{Plan, ShortArea}
-use Rattle.plan.specs.declared.verdict.PlanCounts.{PlanCounts}
 use Rattle.answers.specs.declared.RefusedPlan.{RefusedPlan}
 use Rattle.answers.specs.Answers.{refusal_number}
 use Rattle.opening.specs.Opened.{opened_answer}
@@ -44,10 +43,10 @@ pub opened_back : (plan : List ℕ) (n : ℕ) → opened_of (opened_struct (open
 unfolding opened_answer Low
 opened_back plan n = go (check_plan plan) refl
   where
-    go : (v : Verdict) → check_plan plan ≡ v → Back (opened_answer v n)
-    go (verdict.Good nodes tx rx) e =
-        let b = good_bounds plan nodes tx rx e in
+    go : (v : Result PlanCounts BadRecord) → check_plan plan ≡ v → Back (opened_answer v n)
+    go (Ok counts) e =
+        let b = good_bounds plan counts.nodes counts.tx counts.rx e in
         both Back _ _ _
-        (open_back nodes tx rx (omega (arith, b.nodes)) (omega (arith, b.tx)) (omega (arith, b.rx)))
+        (open_back counts.nodes counts.tx counts.rx (omega (arith, b.nodes)) (omega (arith, b.tx)) (omega (arith, b.rx)))
         (refused_back ShortArea 0 (omega arith))
-    go (verdict.Refused reason k) e = let l = rw e at (plan_low plan) in refused_back (Plan reason) k (omega (arith, l))
+    go (Err bad) e = let l = rw e at (plan_low plan) in refused_back (Plan bad.reason) bad.record_number (omega (arith, l))

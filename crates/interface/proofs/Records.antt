@@ -6,15 +6,14 @@ use Prim.Native.Nat.{ℕ, ◌+◌, ◌*◌, ◌≤◌}
 use native.Mathlib.Omega.{arith}
 use lib.Dec.{ltb}
 use borrow.Author.Tests.{ltb-true, eqb-true}
-use Rattle.std.specs.Prelude.{Result}
+use Rattle.std.specs.Prelude.{Result, Ok, Err}
 use Rattle.base.proofs.Picks.{cases, both}
 use Rattle.records.specs.declared.record.Record.{Record}
 use Rattle.records.specs.declared.record.Record.TheVariants.{Head, Node, Tx, Rx, Signal, Destination, Broken}
 use Rattle.records.specs.Kinds.{stage_of}
 use Rattle.records.specs.Records.{records}
 use Rattle.plan.specs.declared.verdict.Reason.{Reason}
-use Rattle.plan.specs.declared.verdict.Verdict.{Verdict}
-use Rattle.plan.specs.declared.verdict.Verdict.TheVariants.{Good, Refused}
+use Rattle.plan.specs.declared.verdict.PlanCounts.{PlanCounts}
 use Rattle.plan.specs.declared.progress.Progress.{Progress}
 use Rattle.plan.specs.declared.verdict.BadRecord.{BadRecord}
 use Rattle.plan.specs.Progress.{counted, row_after, after, start}
@@ -48,12 +47,12 @@ Early-after p (Destination body) e known whole stands room =
 Early-after p (Broken fault) e known whole stands room = absurd (no_fault fault known whole)
 
 -- a verdict that names no later record
-unfoldable pub Low : Verdict → Type 0
-Low (Good n t r) = Unit {0}
-Low (Refused reason number) = number ≤ 3601
+unfoldable pub Low : Result PlanCounts BadRecord → Type 0
+Low (Ok counts) = Unit {0}
+Low (Err bad) = bad.record_number ≤ 3601
 
 need_low :
-    (test : Bool) (reason : Reason) (k : ℕ) (next : Result Progress BadRecord) (rest : Verdict) → k ≤ 3601 → (test ≡ true → Low (verdict_of next rest))
+    (test : Bool) (reason : Reason) (k : ℕ) (next : Result Progress BadRecord) (rest : Result PlanCounts BadRecord) → k ≤ 3601 → (test ≡ true → Low (verdict_of next rest))
     → Low (verdict_of (need test reason k next) rest)
 unfolding need verdict_of Low
 need_low test reason k next rest l h = cases (λ n. Low (verdict_of n rest)) test _ _ h (λ e. l)

@@ -9,8 +9,7 @@ use Rattle.records.specs.Kinds.{form_of, length_of, eight_at, tx_at, rx_at, tx_r
 use Rattle.records.specs.Nodes.{type_of, is_lin, same_entry}
 use Rattle.records.specs.Records.{record_at, size_of, records_from, records_at, records}
 use Rattle.plan.specs.Rows.{width_of, with_failure, claims_from, awaited, row_of, rows_from, rows_of, all_claims, tx_frames, tx_of, nodes_in, types_in, order_in}
-use Rattle.plan.specs.declared.verdict.Verdict.TheVariants.{Good}
-use Rattle.plan.specs.Check.{check_plan}
+use Rattle.plan.specs.Check.{good_with, check_plan}
 use Rattle.facts.specs.PlanCases.{listing}
 use Rattle.facts.proofs.PlanCases.{plan_cases_hold}
 use Rattle.answers.specs.Answers.{refusal_number, received_number}
@@ -28,7 +27,7 @@ use Rattle.listing.specs.Asked.{asked_by, asked_in, asked_from}
 use Rattle.listing.specs.Output.{answer_line, line_of, lines_of, asked_of, text_of, front_text, model_output}
 use Rattle.listing.specs.Listing.{ListingHolds}
 
-is_good : check_plan listing ≡ Good 1 1 1
+is_good : check_plan listing ≡ good_with 1 1 1
 is_good = plan_cases_hold.1.1.1.1.1.1.1.1.1.1.1.1.1.1.1.1.1.1.1.1.1.1.1.0
 
 pub listing_holds : ListingHolds

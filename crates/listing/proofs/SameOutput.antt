@@ -8,11 +8,10 @@ use Rattle.std.specs.Prelude.{Option, Some, None, IfSome, Result, Ok, Err}
 use Rattle.std.specs.Option.{option_map_or}
 use Rattle.base.specs.Pick.{pick}
 use Rattle.records.specs.Ids.{behind_id}
-use Rattle.plan.specs.declared.verdict.Verdict.{Verdict}
-use Rattle.plan.specs.declared.verdict.Verdict.TheVariants.{Good, Refused}
+use Rattle.plan.specs.declared.verdict.PlanCounts.{PlanCounts}
+use Rattle.plan.specs.declared.verdict.BadRecord.{BadRecord}
 use Rattle.plan.specs.Check.{check_plan}
 use Rattle.facts.specs.Good.{Each}
-use Rattle.plan.specs.declared.verdict.PlanCounts.{PlanCounts}
 use Rattle.answers.specs.declared.RefusedPlan.{RefusedPlan}
 use Rattle.opening.specs.Opened.{opened_answer, opened_area}
 use Rattle.events.specs.declared.Event.{Event}
@@ -92,10 +91,10 @@ events_text (suc bound) input at rx a b =
 
 -- ---- the plan's line before them
 
-opens_same : (v : Verdict) → opened_answer v shortest_area ≡ open_answer shortest_area v
+opens_same : (v : Result PlanCounts BadRecord) → opened_answer v shortest_area ≡ open_answer shortest_area v
 unfolding opened_answer open_answer
-opens_same (Good nodes tx rx) = refl
-opens_same (Refused reason number) = refl
+opens_same (Ok counts) = refl
+opens_same (Err bad) = refl
 
 planned : (o : Result PlanCounts RefusedPlan) (input : List ℕ) (end : ℕ) (a : List ℕ) → Bytes input
     → plan_line o ++ area.open_text o input end a

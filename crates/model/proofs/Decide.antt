@@ -5,12 +5,12 @@ use Prim.Native.Nat.{ℕ, ◌≤◌}
 use native.Mathlib.Omega.{arith}
 use native.Mathlib.Decide.{dec_le}
 use lib.ListN.{get_or}
-use Rattle.std.specs.Prelude.{Err}
+use Rattle.std.specs.Prelude.{Err, Result, Ok}
 use Rattle.base.specs.Numbers.{Bytes}
 use Rattle.plan.specs.declared.verdict.Reason.{Reason}
 use Rattle.plan.specs.declared.verdict.Reason.TheVariants.{Short, Kind, Place, Count, Range, Order, Data, Owner, Indicator}
-use Rattle.plan.specs.declared.verdict.Verdict.{Verdict}
-use Rattle.plan.specs.declared.verdict.Verdict.TheVariants as verdict
+use Rattle.plan.specs.declared.verdict.PlanCounts.{PlanCounts}
+use Rattle.plan.specs.declared.verdict.BadRecord.{BadRecord}
 use Rattle.plan.specs.Check.{check_plan}
 use Rattle.plan.specs.Refusals.{number_of}
 use Rattle.plan.specs.Shortest.{shortest_area}
@@ -95,10 +95,10 @@ module _ (room : ℕ) (g h : Gateway) (a : Meets room g) (b : Meets room h) wher
         fits u (yes l) = opens u (x.good u l) (y.good u l)
         fits u (no l) = refused (x.short u (omega arith)) (y.short u (omega arith)) refl
 
-        go : (v : Verdict) → check_plan plan ≡ v → Steps g h w (opening plan)
-        go (verdict.Refused reason at) e =
-            let r = (refused_exactly plan (number_of reason) at).1 (reason, e, refl) in bad (x.bad _ _ r) (y.bad _ _ r)
-        go (verdict.Good n t r) e = fits (good_unrefused plan n t r e) (dec_le shortest_area room)
+        go : (v : Result PlanCounts BadRecord) → check_plan plan ≡ v → Steps g h w (opening plan)
+        go (Err fault) e =
+            let r = (refused_exactly plan (number_of fault.reason) fault.record_number).1 (fault.reason, e, refl) in bad (x.bad _ _ r) (y.bad _ _ r)
+        go (Ok counts) e = fits (good_unrefused plan counts.nodes counts.tx counts.rx e) (dec_le shortest_area room)
 
   -- ---- a call
 

@@ -12,8 +12,7 @@ use Rattle.records.specs.Records.{record_at, size_of, records_from, records_at, 
 use Rattle.records.specs.Nodes.{type_of, is_lin, same_entry}
 use Rattle.plan.specs.Rows.{width_of, with_failure, claims_from, awaited, row_of, rows_from, rows_of, all_claims, tx_frames, tx_of, nodes_in, types_in}
 use Rattle.plan.specs.Rows.{order_in}
-use Rattle.plan.specs.declared.verdict.Verdict.TheVariants.{Good}
-use Rattle.plan.specs.Check.{check_plan}
+use Rattle.plan.specs.Check.{good_with, check_plan}
 use Rattle.facts.specs.PlanCases.{listing, pumps, bridge, plan_cases}
 use Rattle.facts.proofs.PlanCases.{plan_cases_hold, nth}
 use Rattle.model.specs.Opening.{mapped, begun, open_answer}
@@ -31,13 +30,13 @@ use Rattle.model.specs.ShortGaps.{GapsAnswered}
 use Rattle.model.specs.Polling.{PollingAnswered}
 use Rattle.model.specs.Bridge.{BridgeAnswered}
 
-is_good : check_plan listing ≡ Good 1 1 1
+is_good : check_plan listing ≡ good_with 1 1 1
 is_good = nth 23 plan_cases plan_cases_hold
 
-pumps_good : check_plan pumps ≡ Good 2 2 1
+pumps_good : check_plan pumps ≡ good_with 2 2 1
 pumps_good = nth 24 plan_cases plan_cases_hold
 
-bridge_good : check_plan bridge ≡ Good 1 1 2
+bridge_good : check_plan bridge ≡ good_with 1 1 2
 bridge_good = nth 58 plan_cases plan_cases_hold
 
 all : ListingAnswered × GapsAnswered × PollingAnswered × BridgeAnswered

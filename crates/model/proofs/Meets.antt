@@ -6,8 +6,7 @@ use borrow.Author.Tests.{le-leb, lt-leb}
 use Rattle.base.specs.Numbers.{Bytes}
 use Rattle.base.specs.Pick.{pick}
 use Rattle.records.specs.Records.{records}
-use Rattle.plan.specs.declared.verdict.Verdict.TheVariants.{Good}
-use Rattle.plan.specs.Check.{check_plan}
+use Rattle.plan.specs.Check.{good_with, check_plan}
 use Rattle.plan.specs.Shortest.{shortest_area}
 use Rattle.facts.specs.Good.{count_of, GoodPlan}
 use Rattle.facts.proofs.GoodFacts.{good_facts}
@@ -28,7 +27,7 @@ use Rattle.model.proofs.MeetsResponse.{meets_response, meets_silence}
 
 -- ---- opening
 
-pub good_checked : (plan : List ℕ) → Unrefused plan → check_plan plan ≡ Good (count_of 2 (records plan)) (count_of 3 (records plan)) (count_of 4 (records plan))
+pub good_checked : (plan : List ℕ) → Unrefused plan → check_plan plan ≡ good_with (count_of 2 (records plan)) (count_of 3 (records plan)) (count_of 4 (records plan))
 good_checked plan u = (good_exactly plan).1 u
 
 pub good_plan : (plan : List ℕ) → Unrefused plan → GoodPlan plan

@@ -3,11 +3,10 @@
 use Rattle.std.specs.Prelude.{ℕ, List, [], ◌∷◌, leb, replicate, Result, Ok, Err}
 use Rattle.base.specs.Pick.{pick}
 use Rattle.records.specs.Records.{eight_bytes}
-use Rattle.plan.specs.declared.verdict.Verdict.{Verdict}
-use Rattle.plan.specs.declared.verdict.Verdict.TheVariants as verdict
+use Rattle.plan.specs.declared.verdict.PlanCounts.{PlanCounts}
+use Rattle.plan.specs.declared.verdict.BadRecord.{BadRecord}
 use Rattle.plan.specs.Shortest.{shortest_area}
 use Rattle.answers.specs.declared.Refusal.TheVariants.{Plan as BadPlan, ShortArea}
-use Rattle.plan.specs.declared.verdict.PlanCounts.{PlanCounts}
 use Rattle.answers.specs.declared.RefusedPlan.{RefusedPlan}
 use Rattle.model.specs.Plan.{Plan}
 use Rattle.model.specs.State.{State}
@@ -29,6 +28,6 @@ begun p =
 
 -- 1 to 9 by the check; then 10: "the plan is good and the area is shorter than 32,768 bytes". "Refusal 10 carries record number 0." The number is
 -- the area's length.
-unfoldable pub open_answer : ℕ → Verdict → Result PlanCounts RefusedPlan
-open_answer room (verdict.Good nodes tx rx) = pick (leb shortest_area room) (Ok (record { nodes = nodes; tx = tx; rx = rx })) (Err (record { why = ShortArea; record_number = 0 }))
-open_answer room (verdict.Refused reason number) = Err (record { why = BadPlan reason; record_number = number })
+unfoldable pub open_answer : ℕ → Result PlanCounts BadRecord → Result PlanCounts RefusedPlan
+open_answer room (Ok counts) = pick (leb shortest_area room) (Ok counts) (Err (record { why = ShortArea; record_number = 0 }))
+open_answer room (Err bad) = Err (record { why = BadPlan bad.reason; record_number = bad.record_number })

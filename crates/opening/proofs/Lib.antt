@@ -4,5 +4,4 @@ pub mod Passing
 pub mod Alike
 pub mod BlankLaws
 pub mod Counted
-pub mod Answers
 pub mod OpenedLaws

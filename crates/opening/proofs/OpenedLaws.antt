@@ -4,8 +4,7 @@ use Rattle.base.specs.Pick.{pick}
 use Rattle.base.specs.Numbers.{byte_at, low_at}
 use Rattle.base.proofs.Ranges.{at_most_is}
 use Rattle.records.specs.Records.{records}
-use Rattle.plan.specs.declared.verdict.Verdict.TheVariants.{Good}
-use Rattle.plan.specs.Check.{check_plan, sets_of}
+use Rattle.plan.specs.Check.{good_with, check_plan, sets_of}
 use Rattle.plan.specs.Rows.{tx_of, rows_of, cans_in}
 use Rattle.facts.proofs.GoodFacts.{good_facts}
 use Rattle.facts.proofs.Bounds.{good_bounds}
@@ -114,7 +113,7 @@ module _ (plan a : List ℕ) (room : LongEnough a) where
       let none' = from_zero can_count_byte (omega arith) (omega arith) in
       omega (arith, left.at can_count_byte (omega arith), counted.can (omega arith))
 
-pub opened_counts : (plan a : List ℕ) (n t r : ℕ) → check_plan plan ≡ Good n t r → LongEnough a → Counted (opened plan a) n t r
+pub opened_counts : (plan a : List ℕ) (n t r : ℕ) → check_plan plan ≡ good_with n t r → LongEnough a → Counted (opened plan a) n t r
 unfolding tx_of rows_of
 opened_counts plan a n t r good room =
     let most = good_bounds plan n t r good in

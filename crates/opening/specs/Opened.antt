@@ -13,8 +13,8 @@ use Rattle.records.specs.declared.record.Record.{Record}
 use Rattle.records.specs.Ids.{behind_id, key_of}
 use Rattle.records.specs.Views.{on_head, on_node, on_tx, on_rx}
 use Rattle.records.specs.Records.{size_of, records_at, records}
-use Rattle.plan.specs.declared.verdict.Verdict.{Verdict}
-use Rattle.plan.specs.declared.verdict.Verdict.TheVariants as verdict
+use Rattle.plan.specs.declared.verdict.PlanCounts.{PlanCounts}
+use Rattle.plan.specs.declared.verdict.BadRecord.{BadRecord}
 use Rattle.plan.specs.Check.{sets_of}
 use Rattle.area.specs.Layout.{area_length, order_byte, plan_length_bytes, node_count_byte, can_count_byte, tx_count_bytes, rx_count_bytes, plan_start}
 use Rattle.area.specs.Layout.{extended_home, requests_start, long_enough}
@@ -22,7 +22,6 @@ use Rattle.area.specs.Layout.{node, queue, tx_reload, rx_reload, tx_timer, rx_ti
 use Rattle.area.specs.Layout.{can_count}
 use Rattle.area.specs.Queue.{room_of}
 use Rattle.answers.specs.declared.Refusal.TheVariants.{Plan, ShortArea}
-use Rattle.plan.specs.declared.verdict.PlanCounts.{PlanCounts}
 use Rattle.answers.specs.declared.RefusedPlan.{RefusedPlan}
 
 -- ---- an empty area with the plan in it
@@ -170,9 +169,9 @@ unfoldable pub opened : List ℕ → List ℕ → List ℕ
 opened plan a = with_fullness (sets_of plan) 256 (with_rings 16 (with_records 0 (records plan) (blank plan a)))
 
 -- "10: the plan is good and the area is shorter than 32,768 bytes"; "Refusal 10 carries record number 0."
-unfoldable pub opened_answer : Verdict → ℕ → Result PlanCounts RefusedPlan
-opened_answer (verdict.Good nodes tx rx) n = pick (long_enough n) (Ok (record { nodes = nodes; tx = tx; rx = rx })) (Err (record { why = ShortArea; record_number = 0 }))
-opened_answer (verdict.Refused reason number) n = Err (record { why = Plan reason; record_number = number })
+unfoldable pub opened_answer : Result PlanCounts BadRecord → ℕ → Result PlanCounts RefusedPlan
+opened_answer (Ok counts) n = pick (long_enough n) (Ok counts) (Err (record { why = ShortArea; record_number = 0 }))
+opened_answer (Err bad) n = Err (record { why = Plan bad.reason; record_number = bad.record_number })
 
 -- "A refusal writes nothing."
 unfoldable pub opened_area : Result PlanCounts RefusedPlan → List ℕ → List ℕ → List ℕ

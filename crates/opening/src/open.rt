@@ -11,7 +11,7 @@ use crate::record::with_records;
 use answers::{Refusal, RefusedPlan};
 use area::layout::AREA_LENGTH;
 use plan::check::check_with;
-use plan::verdict::{PlanCounts, Verdict};
+use plan::verdict::PlanCounts;
 
 // The area as the plan begins it, where `sets` has the owned bits of each Tx frame.
 fn fill(plan: &[u8], sets: &[u64], area: &mut [u8])
@@ -26,26 +26,19 @@ fn fill(plan: &[u8], sets: &[u64], area: &mut [u8])
 }
 
 // Checks the plan, and fills the area where the plan is good and the area is long enough. A refusal writes nothing.
+#[tactic(auto, unfolding(crate::specs::Opened::opened_answer, crate::specs::Opened::opened_area, crate::specs::Opened::opened, base::specs::Pick::pick))]
 pub fn open(plan: &[u8], area: &mut [u8]) -> Result<PlanCounts, RefusedPlan>
     ensures answer { result ≡ opened_answer (check_plan plan.now) (length area.old) }
     ensures bytes { area.new ≡ opened_area result plan.now area.old }
 {
     let mut sets = [0u64; 256];
-    let verdict = check_with(plan, &mut sets);
-    match verdict {
-        Verdict::Good { nodes, tx, rx } => {
-            if area.len() < AREA_LENGTH {
-                return Err(RefusedPlan {
-                    why: Refusal::ShortArea,
-                    record_number: 0,
-                });
-            }
-            fill(plan, &sets, area);
-            Ok(PlanCounts { nodes, tx, rx })
-        }
-        Verdict::Refused { reason, record } => Err(RefusedPlan {
-            why: Refusal::Plan(reason),
-            record_number: record,
-        }),
+    let counts = check_with(plan, &mut sets)?;
+    if area.len() < AREA_LENGTH {
+        return Err(RefusedPlan {
+            why: Refusal::ShortArea,
+            record_number: 0,
+        });
     }
+    fill(plan, &sets, area);
+    Ok(counts)
 }

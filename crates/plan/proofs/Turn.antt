@@ -25,14 +25,13 @@ use Rattle.records.proofs.Variants.{by_destination}
 use Rattle.records.proofs.Followers.{step_signal, step_destination}
 use Rattle.records.proofs.RecordLaws.{step_onward, records_end, records_step}
 use Rattle.plan.specs.Limits.{most_nodes, most_tx, most_rx, most_signals, most_in_frame, most_destinations, most_of_signal}
-use Rattle.plan.specs.declared.verdict.Verdict.{Verdict}
-use Rattle.plan.specs.declared.verdict.Verdict.TheVariants.{Good, Refused}
+use Rattle.plan.specs.declared.verdict.PlanCounts.{PlanCounts}
 use Rattle.plan.specs.declared.progress.RowSoFar.{RowSoFar}
 use Rattle.plan.specs.declared.progress.Progress.{Progress}
 use Rattle.plan.specs.declared.verdict.BadRecord.{BadRecord}
 use Rattle.plan.specs.Progress.{counted, row_after, after, start}
 use Rattle.plan.specs.Tests.{may_stand, has_room, in_range, in_data, is_free, indicator_in_data, indicator_is_free}
-use Rattle.plan.specs.Check.{placed, judged, sizes_after, sets_after, ended, verdict_of, check_on, check_plan, sets_unless, sets_on, sets_of, sets_fold}
+use Rattle.plan.specs.Check.{good_with, placed, judged, sizes_after, sets_after, ended, verdict_of, check_on, check_plan, sets_unless, sets_on, sets_of, sets_fold}
 use Rattle.plan.specs.Motion.{Fair, Tables, sizes_then, sets_then}
 use Rattle.plan.proofs.TestLaws.{and_both, no_fault}
 use Rattle.plan.proofs.CheckLaws.{Passed, passed, sizes_then_same, sets_then_same, sets_other}
@@ -137,7 +136,7 @@ module _ {plan : List ℕ} {at : ℕ} {p : Progress} {sizes sets : List ℕ} {re
 
   pub refuses :
       {bad : BadRecord} {sets' : List ℕ} → next ≡ Err bad → sets' ≡ sets_then next p sets read.found
-      → (Refused bad.reason bad.record_number ≡ check_plan plan) × (sets' ≡ sets_of plan)
+      → (Err bad ≡ check_plan plan) × (sets' ≡ sets_of plan)
   unfolding verdict_of sets_unless
   refuses is et = (rw is at decides, (rw is at et) ∙ (rw is at joined))
 
@@ -185,7 +184,7 @@ module _ {plan : List ℕ} {at behind : ℕ} {p : Progress} {sizes sets : List �
     signal_goes go =
         goes t go (sizes_then_same p sizes (Signal body) refl next) t.here.stood.tables (sets_then_same p sets (Signal body) refl next)
 
-    pub signal_refuses : {bad : BadRecord} → next ≡ Err bad → (Refused bad.reason bad.record_number ≡ check_plan plan) × (sets ≡ sets_of plan)
+    pub signal_refuses : {bad : BadRecord} → next ≡ Err bad → (Err bad ≡ check_plan plan) × (sets ≡ sets_of plan)
     unfolding sets_after
     signal_refuses stop = refuses t stop (sets_then_same p sets (Signal body) refl next)
 
@@ -204,26 +203,26 @@ module _ {plan : List ℕ} {at : ℕ} {p : Progress} {sizes sets : List ℕ} {re
       → Stands plan read.next q sizes' sets
   other_goes go es tables = goes t go es tables (sets_other p sets read.found other next)
 
-  pub other_refuses : {bad : BadRecord} → next ≡ Err bad → (Refused bad.reason bad.record_number ≡ check_plan plan) × (sets ≡ sets_of plan)
+  pub other_refuses : {bad : BadRecord} → next ≡ Err bad → (Err bad ≡ check_plan plan) × (sets ≡ sets_of plan)
   other_refuses stop = refuses t stop (sets_other p sets read.found other next)
 
 -- ---- a good plan's sets are those that all its records leave
 
 good_step :
-    (next : Result Progress BadRecord) (v : Verdict) (sets rest all : List ℕ) (n t x : ℕ) → verdict_of next v ≡ Good n t x → (v ≡ Good n t x → rest ≡ all)
+    (next : Result Progress BadRecord) (v : Result PlanCounts BadRecord) (sets rest all : List ℕ) (n t x : ℕ) → verdict_of next v ≡ good_with n t x → (v ≡ good_with n t x → rest ≡ all)
     → sets_unless next sets rest ≡ all
 unfolding verdict_of sets_unless
 good_step (Ok q) v sets rest all n t x e more = more e
 good_step (Err bad) v sets rest all n t x e more = absurd (differ cc)
 
 pub sets_good :
-    (p : Progress) (sizes sets : List ℕ) (rs : List Record) (n t x : ℕ) → check_on p sizes sets rs ≡ Good n t x
+    (p : Progress) (sizes sets : List ℕ) (rs : List Record) (n t x : ℕ) → check_on p sizes sets rs ≡ good_with n t x
     → sets_on p sizes sets rs ≡ sets_fold p.number p.row sets rs
 unfolding check_on sets_on sets_fold after
 sets_good p sizes sets [] n t x e = refl
 sets_good p sizes sets (r ∷ rs) n t x e = good_step (judged p sizes sets r) _ _ _ _ n t x e (sets_good (after p r) _ _ rs n t x)
 
 pub good_sets :
-    (plan : List ℕ) (n t x : ℕ) → check_plan plan ≡ Good n t x → sets_of plan ≡ sets_fold 0 start.row (replicate most_tx 0) (records plan)
+    (plan : List ℕ) (n t x : ℕ) → check_plan plan ≡ good_with n t x → sets_of plan ≡ sets_fold 0 start.row (replicate most_tx 0) (records plan)
 unfolding check_plan sets_of start
 good_sets plan n t x e = sets_good start _ _ (records plan) n t x e

@@ -11,8 +11,7 @@ use Rattle.plan.specs.Limits.{most_tx}
 use Rattle.plan.specs.declared.verdict.Reason.{Reason}
 use Rattle.plan.specs.declared.verdict.Reason.TheVariants.{Short, Kind, Place, Count, Range, Order, Data, Owner, Indicator}
 use Rattle.plan.specs.declared.verdict.BadRecord.{BadRecord}
-use Rattle.plan.specs.declared.verdict.Verdict.{Verdict}
-use Rattle.plan.specs.declared.verdict.Verdict.TheVariants.{Good, Refused}
+use Rattle.plan.specs.declared.verdict.PlanCounts.{PlanCounts}
 use Rattle.plan.specs.declared.progress.RowSoFar.{RowSoFar}
 use Rattle.plan.specs.declared.progress.Progress.{Progress}
 use Rattle.plan.specs.Progress.{row_after, after, start}
@@ -22,6 +21,10 @@ use Rattle.plan.specs.Tests.{indicator_in_data, indicator_is_free}
 -- a plan that is refused for a reason, at a record
 abbrev pub refused_at : {A : Type 0} → Reason → ℕ → Result A BadRecord
 refused_at reason number = Err (record { reason = reason; record_number = number })
+
+-- a plan that is good, with so many nodes, Tx frames and Rx frames
+abbrev pub good_with : ℕ → ℕ → ℕ → Result PlanCounts BadRecord
+good_with nodes tx rx = Ok (record { nodes = nodes; tx = tx; rx = rx })
 
 -- a test that must be passed
 abbrev pub required : Bool → Reason → ℕ → Result (Unit {0}) BadRecord
@@ -75,24 +78,24 @@ sets_after row sets r =
     r
 
 -- at the end: "the input is empty", or the plan is good
-unfoldable pub ended : Progress → Verdict
+unfoldable pub ended : Progress → Result PlanCounts BadRecord
 ended p =
     pick (followed p.row 0)
-    (pick (eqb p.number 0) (Refused Short 0) (Good p.counts.nodes p.counts.tx p.counts.rx))
-    (Refused Indicator p.row.source)
+    (pick (eqb p.number 0) (refused_at Short 0) (good_with p.counts.nodes p.counts.tx p.counts.rx))
+    (refused_at Indicator p.row.source)
 
 -- a refusal ends the check
-unfoldable pub verdict_of : Result Progress BadRecord → Verdict → Verdict
+unfoldable pub verdict_of : Result Progress BadRecord → Result PlanCounts BadRecord → Result PlanCounts BadRecord
 verdict_of (Ok q) rest = rest
-verdict_of (Err bad) rest = Refused bad.reason bad.record_number
+verdict_of (Err bad) rest = Err bad
 
 -- "The first bad record decides."
-unfoldable pub check_on : Progress → List ℕ → List ℕ → List Record → Verdict
+unfoldable pub check_on : Progress → List ℕ → List ℕ → List Record → Result PlanCounts BadRecord
 check_on p sizes sets [] = ended p
 check_on p sizes sets (r ∷ rs) =
     verdict_of (judged p sizes sets r) (check_on (after p r) (sizes_after p.counts.tx sizes r) (sets_after p.row sets r) rs)
 
-unfoldable pub check_plan : List ℕ → Verdict
+unfoldable pub check_plan : List ℕ → Result PlanCounts BadRecord
 check_plan plan = check_on start (replicate most_tx 0) (replicate most_tx 0) (records plan)
 
 -- where a record is refused, the sets of owned bits stay as they are

@@ -1,5 +1,5 @@
 // The check of a plan, from its first record to the first bad one or the end.
-#![tactic(auto, unfolding(crate::specs::Progress::start, crate::specs::Check::judged, crate::specs::Check::need, crate::specs::Check::fault_reason, base::specs::Pick::pick, crate::specs::Tests::is_kind, crate::specs::Tests::is_whole, crate::specs::Tests::followed, crate::specs::Check::sizes_after, crate::specs::Check::sets_after, records::specs::Kinds::stage_of, records::specs::Reading::follower_of))]
+#![tactic(auto, unfolding(crate::specs::Progress::start, crate::specs::Check::ended, crate::specs::Check::judged, crate::specs::Check::need, crate::specs::Check::fault_reason, base::specs::Pick::pick, crate::specs::Tests::is_kind, crate::specs::Tests::is_whole, crate::specs::Tests::followed, crate::specs::Check::sizes_after, crate::specs::Check::sets_after, records::specs::Kinds::stage_of, records::specs::Reading::follower_of))]
 
 ghost use Rattle.std.specs.Prelude.{◌≡◌, [], length, replicate};
 ghost use Rattle.records.specs.declared.record.Record.TheVariants.{Signal, Destination};
@@ -14,7 +14,7 @@ ghost use Rattle.plan.specs.Motion.{Fair, Tables, sizes_then, sets_then};
 
 use crate::limits::MOST_TX;
 use crate::progress::{Progress, RowSoFar};
-use crate::verdict::{BadRecord, Reason, Verdict};
+use crate::verdict::{BadRecord, PlanCounts, Reason};
 use records::decode::{
     DESTINATION_BYTES, DESTINATION_STAGE, SIGNAL_BYTES, SIGNAL_STAGE, follower_at, stage_of,
 };
@@ -94,29 +94,22 @@ fn judge_other(p: Progress, r: Record, sizes: &mut [u8]) -> Result<Progress, Bad
 }
 
 // At the plan's end.
-fn end(p: Progress) -> Verdict
+fn end(p: Progress) -> Result<PlanCounts, BadRecord>
     ensures { result ≡ ended p }
 {
-    let row = p.row;
-    let source = row.source;
-    if row.awaits != 0 {
-        return Verdict::Refused {
-            reason: Reason::Indicator,
-            record: source,
-        };
-    }
+    require_follower(p.row, 0)?;
     if p.number == 0 {
-        return Verdict::Refused {
+        return Err(BadRecord {
             reason: Reason::Short,
-            record: 0,
-        };
+            record_number: 0,
+        });
     }
     let counts = p.counts;
-    Verdict::Good {
+    Ok(PlanCounts {
         nodes: counts.nodes,
         tx: counts.tx,
         rx: counts.rx,
-    }
+    })
 }
 
 fn begin() -> Progress
@@ -127,7 +120,7 @@ fn begin() -> Progress
 
 // Whether a plan is good, with its counts; or why it is refused, with the number of the record. `sets` becomes the sets of owned bits, one for
 // each Tx frame, that the check joined.
-pub fn check_with(plan: &[u8], sets: &mut [u64]) -> Verdict
+pub fn check_with(plan: &[u8], sets: &mut [u64]) -> Result<PlanCounts, BadRecord>
     requires { sets.old ≡ replicate most_tx 0 }
     ensures verdict { result ≡ check_plan plan.now }
     ensures sets { sets.new ≡ sets_of plan.now }
@@ -136,54 +129,19 @@ pub fn check_with(plan: &[u8], sets: &mut [u64]) -> Verdict
     let mut p = begin();
     let mut at = 0;
     while at < plan.len() {
-        let follower = follower_at(plan, at);
-        match follower {
+        match follower_at(plan, at) {
             Follower::Signal(body) => {
-                let next = judge_signal(p, body);
-                match next {
-                    Ok(q) => {
-                        p = q;
-                        at = at + SIGNAL_BYTES;
-                    }
-                    Err(bad) => {
-                        return Verdict::Refused {
-                            reason: bad.reason,
-                            record: bad.record_number,
-                        };
-                    }
-                }
+                p = judge_signal(p, body)?;
+                at = at + SIGNAL_BYTES;
             }
             Follower::Destination(body) => {
-                let next = judge_destination(p, body, &sizes, sets);
-                match next {
-                    Ok(q) => {
-                        p = q;
-                        at = at + DESTINATION_BYTES;
-                    }
-                    Err(bad) => {
-                        return Verdict::Refused {
-                            reason: bad.reason,
-                            record: bad.record_number,
-                        };
-                    }
-                }
+                p = judge_destination(p, body, &sizes, sets)?;
+                at = at + DESTINATION_BYTES;
             }
             Follower::Other => {
                 let read = read_record(plan, at);
-                let found = read.found;
-                let next = judge_other(p, found, &mut sizes);
-                match next {
-                    Ok(q) => {
-                        p = q;
-                        at = read.next;
-                    }
-                    Err(bad) => {
-                        return Verdict::Refused {
-                            reason: bad.reason,
-                            record: bad.record_number,
-                        };
-                    }
-                }
+                p = judge_other(p, read.found, &mut sizes)?;
+                at = read.next;
             }
         }
     }
@@ -191,7 +149,7 @@ pub fn check_with(plan: &[u8], sets: &mut [u64]) -> Verdict
 }
 
 // The same for one who needs the verdict only.
-pub fn check_plan(plan: &[u8]) -> Verdict
+pub fn check_plan(plan: &[u8]) -> Result<PlanCounts, BadRecord>
     ensures { result ≡ check_plan plan.now }
 {
     let mut sets = [0u64; MOST_TX];

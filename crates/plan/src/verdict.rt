@@ -30,12 +30,6 @@ pub struct BadRecord {
     pub record_number: usize,
 }
 
-#[derive(Clone, Copy, Debug, PartialEq, Eq)]
-pub enum Verdict {
-    Good { nodes: usize, tx: usize, rx: usize },
-    Refused { reason: Reason, record: usize },
-}
-
 // How many nodes, Tx frames and Rx frames a good plan has.
 #[derive(Clone, Copy, Debug, PartialEq, Eq)]
 pub struct PlanCounts {

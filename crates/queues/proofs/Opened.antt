@@ -6,14 +6,13 @@ use Prim.Native.Nat.{ℕ}
 use lib.Dec.{leb}
 use lib.ListN.{length}
 use borrow.Author.Tests.{leb-true}
-use Rattle.std.specs.Prelude.{Result}
+use Rattle.std.specs.Prelude.{Result, Ok, Err}
 use Rattle.base.specs.Numbers.{Bytes}
 use Rattle.base.proofs.Picks.{cases}
-use Rattle.plan.specs.declared.verdict.Verdict.{Verdict}
-use Rattle.plan.specs.declared.verdict.Verdict.TheVariants as verdict
+use Rattle.plan.specs.declared.verdict.PlanCounts.{PlanCounts}
+use Rattle.plan.specs.declared.verdict.BadRecord.{BadRecord}
 use Rattle.plan.specs.Check.{check_plan}
 use Rattle.area.specs.Layout.{area_length}
-use Rattle.plan.specs.declared.verdict.PlanCounts.{PlanCounts}
 use Rattle.answers.specs.declared.RefusedPlan.{RefusedPlan}
 use Rattle.opening.specs.Opened.{opened_answer, opened_area}
 use Rattle.model.specs.Plan.{said}
@@ -50,14 +49,14 @@ OpenIf (some plan) a = Bytes plan → IsOpen plan a
 
 -- a refused opening leaves all
 after_opening :
-    (past : Past) (plan a : List ℕ) → OpenIf past.plan a → (v : Verdict) → check_plan plan ≡ v
+    (past : Past) (plan a : List ℕ) → OpenIf past.plan a → (v : Result PlanCounts BadRecord) → check_plan plan ≡ v
     → OpenIf (opened_past (opened_answer v (length a)) plan past).plan (opened_area (opened_answer v (length a)) plan a)
 unfolding opened_answer opened_area opened_past
-after_opening past plan a o (verdict.Good n t r) e =
+after_opening past plan a o (Ok counts) e =
     cases (λ (x : Result PlanCounts RefusedPlan). OpenIf (opened_past x plan past).plan (opened_area x plan a)) (leb area_length (length a)) _ _
-    (λ long bytes. record { state = begun (said plan); held = Held-opened plan a n t r e (leb-true _ _ long) bytes })
+    (λ long bytes. record { state = begun (said plan); held = Held-opened plan a counts.nodes counts.tx counts.rx e (leb-true _ _ long) bytes })
     (λ short. o)
-after_opening past plan a o (verdict.Refused reason number) e = o
+after_opening past plan a o (Err bad) e = o
 
 after_call : (x : Option (List ℕ)) (a : List ℕ) → OpenIf x a → (c : Call) → OpenIf x (area_after a c)
 after_call none a o c = tt

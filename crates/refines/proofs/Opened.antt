@@ -8,8 +8,7 @@ use Rattle.base.specs.Numbers.{Bytes}
 use Rattle.clock.specs.Counter.{counter_after}
 use Rattle.records.specs.Views.{no_tx}
 use Rattle.records.specs.Records.{records, eight_bytes}
-use Rattle.plan.specs.declared.verdict.Verdict.TheVariants.{Good}
-use Rattle.plan.specs.Check.{check_plan}
+use Rattle.plan.specs.Check.{good_with, check_plan}
 use Rattle.plan.specs.Rows.{tx_of, rows_of, nodes_in, no_row}
 use Rattle.facts.proofs.GoodFacts.{good_facts}
 use Rattle.area.specs.Layout.{LongEnough}
@@ -25,7 +24,7 @@ use Rattle.model.proofs.PlanBytes.{plan-payload}
 use Rattle.refines.specs.Shows.{Shows}
 use Rattle.refines.proofs.Held.{Held}
 
-module _ (plan a : List ℕ) (n t r : ℕ) (e : check_plan plan ≡ Good n t r) (long : LongEnough a) where
+module _ (plan a : List ℕ) (n t r : ℕ) (e : check_plan plan ≡ good_with n t r) (long : LongEnough a) where
   empty : (m : ℕ) → (ends_of (opened plan a) m).waiting ≡ 0 → queue_of (opened plan a) m ≡ []
   unfolding queue_of entries
   empty m z = rw z

@@ -6,12 +6,12 @@ use Prim.Native.Nat.{ℕ}
 use lib.Dec.{leb, eqb}
 use lib.ListN.{length}
 use borrow.Author.Tests.{eq-eqb, le-leb, eqb-true, leb-true}
-use Rattle.std.specs.Prelude.{Err}
+use Rattle.std.specs.Prelude.{Err, Result, Ok}
 use Rattle.base.specs.Pick.{pick}
 use Rattle.base.specs.Numbers.{byte_at, Bytes}
 use Rattle.base.proofs.Picks.{picks, passes, cases}
-use Rattle.plan.specs.declared.verdict.Verdict.{Verdict}
-use Rattle.plan.specs.declared.verdict.Verdict.TheVariants as verdict
+use Rattle.plan.specs.declared.verdict.PlanCounts.{PlanCounts}
+use Rattle.plan.specs.declared.verdict.BadRecord.{BadRecord}
 use Rattle.plan.specs.Check.{check_plan}
 use Rattle.area.specs.Layout.{area_length, marked}
 use Rattle.answers.specs.declared.Refusal.{Refusal}
@@ -99,10 +99,10 @@ call_agrees a (holding plan s) k c = let x = follows k c in (x.answer, x.held)
 
 -- ---- an opening
 
-pub opening_answer : (room : ℕ) (v : Verdict) → opened_answer v room ≡ open_answer room v
+pub opening_answer : (room : ℕ) (v : Result PlanCounts BadRecord) → opened_answer v room ≡ open_answer room v
 unfolding opened_answer open_answer
-opening_answer room (verdict.Good n t r) = refl
-opening_answer room (verdict.Refused reason number) = refl
+opening_answer room (Ok counts) = refl
+opening_answer room (Err bad) = refl
 
 -- whatever stands in the area; the world before matters where the opening is refused
 pub opening_agrees :
@@ -112,13 +112,13 @@ pub opening_agrees :
 unfolding opened_answer open_answer opened_area open_next
 opening_agrees a plan b w k = go (check_plan plan) refl
   where
-    P : Verdict → Type 0
+    P : Result PlanCounts BadRecord → Type 0
     P v = Agrees (opened_area (opened_answer v (length a)) plan a) (open_next (open_answer (length a) v) w plan)
 
-    go : (v : Verdict) → check_plan plan ≡ v → P (check_plan plan)
-    go (verdict.Good n t r) e =
+    go : (v : Result PlanCounts BadRecord) → check_plan plan ≡ v → P (check_plan plan)
+    go (Ok counts) e =
         rw e
         (chosen (λ x y. Agrees (opened_area x plan a) (open_next y w plan)) (leb area_length (length a)) _ refl
-        (λ l. unfold Agrees in Held-opened plan a n t r e (leb-true _ _ l) b)
+        (λ l. unfold Agrees in Held-opened plan a counts.nodes counts.tx counts.rx e (leb-true _ _ l) b)
         (λ l. k ShortArea 0 (rw e (passes _ _ _ l))))
-    go (verdict.Refused reason number) e = rw e (k (BadPlan reason) number (rw e))
+    go (Err bad) e = rw e (k (BadPlan bad.reason) bad.record_number (rw e))

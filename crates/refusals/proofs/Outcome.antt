@@ -12,11 +12,10 @@ use Rattle.records.specs.Records.{records}
 use Rattle.plan.specs.declared.progress.Progress.{Progress}
 use Rattle.plan.specs.declared.verdict.Reason.{Reason}
 use Rattle.plan.specs.declared.verdict.Reason.TheVariants.{Short, Indicator}
-use Rattle.plan.specs.declared.verdict.Verdict.TheVariants.{Good, Refused}
 use Rattle.plan.specs.Refusals.{number_of}
 use Rattle.plan.specs.Progress.{after}
 use Rattle.plan.specs.Tests.{followed}
-use Rattle.plan.specs.Check.{need, ended, verdict_of, check_on, check_plan}
+use Rattle.plan.specs.Check.{good_with, refused_at, need, ended, verdict_of, check_on, check_plan}
 use Rattle.facts.specs.Good.{count_of}
 use Rattle.facts.specs.Statements.{begun, judged_in, state_after, AllGo}
 use Rattle.facts.proofs.First.{check_past, first_bad}
@@ -54,13 +53,13 @@ all_go (r ∷ rest) before g n =
 
 -- ---- the end
 
-ended_at : (p : Progress) → ended p ≡ verdict_of (next_at_end p) (Good p.counts.nodes p.counts.tx p.counts.rx)
+ended_at : (p : Progress) → ended p ≡ verdict_of (next_at_end p) (good_with p.counts.nodes p.counts.tx p.counts.rx)
 unfolding ended need verdict_of
 ended_at p = go (followed p.row 0) (eqb p.number 0)
   where
     go : (x y : Bool)
-        → pick x (pick y (Refused Short 0) (Good p.counts.nodes p.counts.tx p.counts.rx)) (Refused Indicator p.row.source)
-        ≡ verdict_of (need x Indicator p.row.source (need (not y) Short 0 (Ok p))) (Good p.counts.nodes p.counts.tx p.counts.rx)
+        → pick x (pick y (refused_at Short 0) (good_with p.counts.nodes p.counts.tx p.counts.rx)) (refused_at Indicator p.row.source)
+        ≡ verdict_of (need x Indicator p.row.source (need (not y) Short 0 (Ok p))) (good_with p.counts.nodes p.counts.tx p.counts.rx)
     go true true = unfold pick in refl
     go true false = unfold pick in refl
     go false y = unfold pick in refl
@@ -70,7 +69,7 @@ module _ (plan : List ℕ) where
   end = (state_after begun (records plan)).progress
 
   -- where all records pass the end decides
-  verdict_end : AllGo begun (records plan) → check_plan plan ≡ verdict_of (next_at_end end) (Good end.counts.nodes end.counts.tx end.counts.rx)
+  verdict_end : AllGo begun (records plan) → check_plan plan ≡ verdict_of (next_at_end end) (good_with end.counts.nodes end.counts.tx end.counts.rx)
   unfolding check_plan check_on end
   verdict_end g = rw (append-nil (records plan)) at (check_past begun (records plan) [] g) ∙ ended_at end
 
@@ -78,7 +77,7 @@ module _ (plan : List ℕ) where
 
   pub refused :
       (number named : ℕ) → Refuses plan number named
-      → (reason : Reason) × (check_plan plan ≡ Refused reason named) × (number_of reason ≡ number)
+      → (reason : Reason) × (check_plan plan ≡ refused_at reason named) × (number_of reason ≡ number)
   unfolding AllGo verdict_of end
   refused number named (at_record before r rest e n w) =
       let g = all_go before [] tt n in
@@ -93,7 +92,7 @@ module _ (plan : List ℕ) where
 
   counted_good :
       AllGo begun (records plan) → next_at_end end ≡ Ok end
-      → check_plan plan ≡ Good (count_of 2 (records plan)) (count_of 3 (records plan)) (count_of 4 (records plan))
+      → check_plan plan ≡ good_with (count_of 2 (records plan)) (count_of 3 (records plan)) (count_of 4 (records plan))
   unfolding verdict_of end
   counted_good g e =
       let h = so_far (records plan) g in
@@ -102,7 +101,7 @@ module _ (plan : List ℕ) where
   abbrev pub Outcome : Type 0
   Outcome =
       ((number : ℕ) × (named : ℕ) × Refuses plan number named)
-      ⊎ (check_plan plan ≡ Good (count_of 2 (records plan)) (count_of 3 (records plan)) (count_of 4 (records plan)))
+      ⊎ (check_plan plan ≡ good_with (count_of 2 (records plan)) (count_of 3 (records plan)) (count_of 4 (records plan)))
 
   Outcome-end : AllGo begun (records plan) → Outcome
   unfolding end

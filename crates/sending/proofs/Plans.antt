@@ -5,8 +5,7 @@ use Prim.Native.Nat.{ℕ, ◌+◌, ◌≤◌, ◌<◌}
 use native.Mathlib.Omega.{arith}
 use lib.ListN.{length}
 use Rattle.records.specs.Views.{no_tx}
-use Rattle.plan.specs.declared.verdict.Verdict.TheVariants.{Good}
-use Rattle.plan.specs.Check.{check_plan}
+use Rattle.plan.specs.Check.{good_with, check_plan}
 use Rattle.plan.specs.Rows.{width_of, Claim, rows_of, claims_of, tx_of, no_row}
 use Rattle.facts.specs.Good.{Each, Fits, sizes_of}
 use Rattle.facts.specs.Statements.{Small}
@@ -39,7 +38,7 @@ Each-both f (x ∷ xs) h k = (f x h.0 k.0, Each-both f xs h.1 k.1)
 lies : (plan : List ℕ) (c : Claim) → Fits (sizes_of (tx_of plan)) c → Small c → Lies plan c
 lies plan c f s = record { frame = omega (arith, sizes_length (tx_of plan), f.exists); bits = s.bits }
 
-pub sendable : (plan : List ℕ) (n t r : ℕ) → check_plan plan ≡ Good n t r → Sendable plan
+pub sendable : (plan : List ℕ) (n t r : ℕ) → check_plan plan ≡ good_with n t r → Sendable plan
 unfolding tx_of claims_of
 sendable plan n t r e =
     let f = (good_facts plan n t r e).0 in

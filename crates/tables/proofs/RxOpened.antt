@@ -7,8 +7,7 @@ use lib.ListN.{length}
 use Rattle.base.specs.Numbers.{byte_at, low_at}
 use Rattle.base.proofs.Ranges.{at_most_is}
 use Rattle.records.specs.Ids.{behind_id, Possible}
-use Rattle.plan.specs.declared.verdict.Verdict.TheVariants.{Good}
-use Rattle.plan.specs.Check.{check_plan}
+use Rattle.plan.specs.Check.{good_with, check_plan}
 use Rattle.plan.specs.Rows.{row_of, rows_of}
 use Rattle.facts.specs.Good.{GoodPlan}
 use Rattle.facts.proofs.GoodFacts.{good_facts}
@@ -62,7 +61,7 @@ module _
           mask = rw s.row p.mask;
         }
 
-module _ (plan a : List ℕ) (n t r : ℕ) (good : check_plan plan ≡ Good n t r) (room : LongEnough a) where
+module _ (plan a : List ℕ) (n t r : ℕ) (good : check_plan plan ≡ good_with n t r) (room : LongEnough a) where
   facts : GoodPlan plan
   facts = (good_facts plan n t r good).0
 

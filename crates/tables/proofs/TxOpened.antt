@@ -13,8 +13,7 @@ use Rattle.records.specs.Records.{records, eight_bytes}
 use Rattle.records.specs.Nodes.{is_lin}
 use Rattle.records.specs.Ids.{behind_id, Possible}
 use Rattle.records.specs.Views.{no_tx}
-use Rattle.plan.specs.declared.verdict.Verdict.TheVariants.{Good}
-use Rattle.plan.specs.Check.{check_plan, sets_of}
+use Rattle.plan.specs.Check.{good_with, check_plan, sets_of}
 use Rattle.plan.specs.Rows.{tx_of, rows_of, nodes_in, cans_in, order_in}
 use Rattle.plan.proofs.TestLaws.{TxRanges}
 use Rattle.facts.specs.Good.{GoodPlan}
@@ -53,7 +52,7 @@ fullness_at sets a long t h =
     rows_at (λ n. with_fullness sets n a) full (λ n. owners (get_or sets n 0) 64) (λ n. refl) (omega arith) 256
     (λ n l. (omega arith, omega (arith, owners-le (get_or sets n 0) 64))) 256 (omega arith) t h
 
-module _ (plan a : List ℕ) (n t r : ℕ) (good : check_plan plan ≡ Good n t r) (room : LongEnough a) where
+module _ (plan a : List ℕ) (n t r : ℕ) (good : check_plan plan ≡ good_with n t r) (room : LongEnough a) where
   facts : GoodPlan plan
   facts = (good_facts plan n t r good).0
 

@@ -3,8 +3,7 @@ use Rattle.std.specs.Prelude.{◌≡◌, List, ◌↔◌, ℕ, ◌+◌, ◌≤�
 use Rattle.records.specs.declared.record.Id.{Id}
 use Rattle.records.specs.Ids.{Before}
 use Rattle.records.specs.declared.record.RxNumber.{RxNumber}
-use Rattle.plan.specs.declared.verdict.Verdict.TheVariants.{Good}
-use Rattle.plan.specs.Check.{check_plan}
+use Rattle.plan.specs.Check.{good_with, check_plan}
 use Rattle.plan.specs.Rows.{rows_of}
 use Rattle.area.specs.Layout.{LongEnough}
 use Rattle.opening.specs.Opened.{opened}
@@ -15,7 +14,7 @@ use Rattle.tables.specs.Reads.{row_at, Reads, Begun}
 -- an area that a good plan opened
 abbrev pub OpenedReads : Type 0
 OpenedReads =
-    (plan a : List ℕ) (n t r : ℕ) → check_plan plan ≡ Good n t r → LongEnough a → Reads plan (opened plan a) × Begun plan (opened plan a)
+    (plan a : List ℕ) (n t r : ℕ) → check_plan plan ≡ good_with n t r → LongEnough a → Reads plan (opened plan a) × Begun plan (opened plan a)
 
 -- the row of a node and an ID
 pub record Names (plan : List ℕ) (n : ℕ) (i : Id) (r : ℕ) : Type 0 where
@@ -44,4 +43,4 @@ pub record Finds (plan a : List ℕ) (n : ℕ) (id : Id) : Type 0 where
 
 abbrev pub LookupFinds : Type 0
 LookupFinds =
-    (plan a : List ℕ) (n t r : ℕ) → check_plan plan ≡ Good n t r → Reads plan a → (m : ℕ) (id : Id) → m < 16 → Finds plan a m id
+    (plan a : List ℕ) (n t r : ℕ) → check_plan plan ≡ good_with n t r → Reads plan a → (m : ℕ) (id : Id) → m < 16 → Finds plan a m id

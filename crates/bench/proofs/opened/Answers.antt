@@ -9,9 +9,8 @@ use Rattle.std.proofs.KnownBytes.{Appends-trans}
 use Rattle.std.proofs.lemmas.Result.{on_ok_weaker}
 use Rattle.base.proofs.Apart.{differ}
 use Rattle.base.proofs.Picks.{both}
-use Rattle.plan.specs.declared.verdict.Verdict.{Verdict}
-use Rattle.plan.specs.declared.verdict.Verdict.TheVariants as verdict
 use Rattle.plan.specs.declared.verdict.PlanCounts.{PlanCounts}
+use Rattle.plan.specs.declared.verdict.BadRecord.{BadRecord}
 use Rattle.plan.specs.Check.{check_plan}
 use Rattle.facts.proofs.Bounds.{good_bounds}
 use Rattle.area.specs.Layout.{area_length}
@@ -28,13 +27,13 @@ Few o = (counts : PlanCounts) → o ≡ Ok counts → counts.rx ≤ 256
 refused_few : (refused : RefusedPlan) → Few (Err refused)
 refused_few refused counts e = absurd (differ cc)
 
-verdict_few : (plan : List ℕ) (size : ℕ) (v : Verdict) → check_plan plan ≡ v → Few (opened_answer v size)
+verdict_few : (plan : List ℕ) (size : ℕ) (v : Result PlanCounts BadRecord) → check_plan plan ≡ v → Few (opened_answer v size)
 unfolding opened_answer
-verdict_few plan size (verdict.Good n t r) e =
+verdict_few plan size (Ok good) e =
     both Few (leb area_length size) _ _
-    (λ counts o. let same : r ≡ counts.rx = cc in rw same at (good_bounds plan n t r e).rx)
+    (λ counts o. let same : good.rx ≡ counts.rx = cc in rw same at (good_bounds plan good.nodes good.tx good.rx e).rx)
     (refused_few _)
-verdict_few plan size (verdict.Refused reason number) e = refused_few _
+verdict_few plan size (Err bad) e = refused_few _
 
 -- the program's area is zeros
 on_zeros : (input area : List ℕ) (end : ℕ) (answer : Result PlanCounts RefusedPlan) → area ≡ replicate area_length 0

@@ -1,15 +1,15 @@
 -- What a response and its absence come to, by what decides them: one law for each refusal, and one for what goes on.
-use mathlib.Core.Path.{◌≡◌, refl}
-use mathlib.Core.Bool.{Bool, true, false}
+use mathlib.Core.Path.{◌≡◌, sym, ap, ◌∙◌}
+use mathlib.Core.Bool.{true, false}
 use mathlib.Core.List.{List}
 use Prim.Native.Nat.{ℕ, ◌%◌, ◌≤◌, ◌<◌}
-use native.Mathlib.Omega.{arith}
 use lib.Dec.{eqb}
 use lib.ListN.{length}
 use borrow.Author.Tests.{lt-ltb, le-ltb, le-leb, lt-leb}
 use Rattle.std.specs.Prelude.{Result, Ok, Err}
 use Rattle.base.specs.Pick.{pick}
 use Rattle.base.specs.Numbers.{byte_at}
+use Rattle.base.proofs.Picks.{picks, into}
 use Rattle.records.specs.declared.record.RxNumber.{RxNumber}
 use Rattle.area.specs.Layout.{long, marked, node_count}
 use Rattle.answers.specs.declared.Refusal.{Refusal}
@@ -18,7 +18,7 @@ use Rattle.answers.specs.declared.Responded.{Responded}
 use Rattle.answers.specs.declared.Timeout.{Timeout}
 use Rattle.answers.specs.declared.Timeout.TheVariants as silence
 use Rattle.reception.specs.declared.lookup.Found.TheVariants.{At, Nothing}
-use Rattle.ticking.specs.Tick.{expired_area, expired_report}
+use Rattle.ticking.specs.Tick.{expired_area, timed_out}
 use Rattle.polling.specs.Polling.{polled, row_answer, row_area, polled_answer, polled_area, responded_answer, responded_area}
 use Rattle.polling.specs.Polling.{silence_of, silenced_by, silent_answer, silent_area}
 
@@ -57,17 +57,6 @@ module _ (a : List ℕ) (n id : ℕ) (payload : List ℕ) (sum : ℕ) where
             let u = le-leb (length payload) 8 h in
             (rw (opened, t, found, u) e, rw (opened, t, found, u) f)
 
--- "1 short, 2 long"
-report_two : (t : Bool) → ◌≡◌ {A = ℕ} (pick t 2 1) 2 → t ≡ true
-unfolding pick
-report_two true e = refl
-report_two false e = absurd (omega arith)
-
-report_one : (t : Bool) → (◌≡◌ {A = ℕ} (pick t 2 1) 2 → ⊥) → t ≡ false
-unfolding pick
-report_one true d = absurd (d refl)
-report_one false d = refl
-
 module _ (a : List ℕ) (n id : ℕ) where
   abbrev pub Silences : Result Timeout Refusal → List ℕ → Type 0
   Silences x b = (x ≡ silent_answer a n id) × (b ≡ silent_area a n id)
@@ -88,16 +77,11 @@ module _ (a : List ℕ) (n id : ℕ) where
 
       -- q is the row's number in range, and b what a timeout leaves
       module _ (r : RxNumber) (found : polled a n id ≡ At r) (q : ℕ) (within : q ≡ r.0 % 256) {b : List ℕ} (out : b ≡ expired_area a q) where
-        pub times_out_long : expired_report a q ≡ 2 → Silences (Ok silence.Long) b
-        unfolding expired_report silent_answer silent_area silence_of silenced_by pick
-        times_out_long e =
+        pub times_out : {x : Timeout} → x ≡ timed_out a q → Silences (Ok x) b
+        unfolding timed_out silent_answer silent_area silence_of silenced_by
+        times_out e =
             let t = lt-ltb n (node_count a) known in
-            let u = report_two (eqb (byte_at a (long q)) 1) e in
-            (rw (opened, t, found, ← within, u), rw (opened, t, found, ← within) out)
-
-        pub times_out_short : (expired_report a q ≡ 2 → ⊥) → Silences (Ok silence.Short) b
-        unfolding expired_report silent_answer silent_area silence_of silenced_by pick
-        times_out_short d =
-            let t = lt-ltb n (node_count a) known in
-            let u = report_one (eqb (byte_at a (long q)) 1) d in
-            (rw (opened, t, found, ← within, u), rw (opened, t, found, ← within) out)
+            let to = picks _ _ _ opened ∙ picks _ _ _ t ∙ ap (silence_of a) found in (
+              rw (e, within) (into Ok (eqb (byte_at a (long (r.0 % 256))) 1) silence.Long silence.Short ∙ sym to),
+              rw (out, within) (sym (picks _ _ _ opened ∙ picks _ _ _ t ∙ ap (silenced_by a) found)),
+            )

@@ -20,8 +20,5 @@ pub fn no_response(area: &mut [u8], node: usize, id: u32) -> Result<Timeout, Ref
     let Found::At(r) = found else {
         return Err(Refusal::WrongCall);
     };
-    if expire(area, row_in_range(r)) == 2 {
-        return Ok(Timeout::Long);
-    }
-    Ok(Timeout::Short)
+    Ok(expire(area, row_in_range(r)))
 }

@@ -5,10 +5,13 @@ use mathlib.Core.Bool.{true, false}
 use mathlib.Core.List.{List}
 use Prim.Native.Nat.{ℕ, ◌+◌, ◌<◌}
 use native.Mathlib.Omega.{arith}
+use lib.Dec.{eqb}
 use lib.ListN.{set}
 use lib.Seq.{get_or-set_other}
+use Rattle.std.specs.Prelude.{Some}
 use Rattle.base.specs.Pick.{pick}
 use Rattle.base.specs.Numbers.{byte_at}
+use Rattle.base.proofs.Picks.{into}
 use Rattle.clock.specs.Timer.{lowered}
 use Rattle.records.specs.declared.record.NodeType.{NodeType}
 use Rattle.records.specs.declared.record.NodeType.TheVariants.{Can, Lin}
@@ -19,7 +22,8 @@ use Rattle.area.specs.Queue.{requested}
 use Rattle.area.specs.Claims.{expired, all_done, failure_written}
 use Rattle.area.proofs.Kept.{rx_frame_kept}
 use Rattle.area.proofs.Copies.{expired_claims, failure_off, Kept-failure}
-use Rattle.ticking.specs.Tick.{long_lowered, expired_area, expired_report, rx_on_lin, rx_expiry, expiry_report}
+use Rattle.answers.specs.declared.Timeout.TheVariants.{Short, Long}
+use Rattle.ticking.specs.Tick.{long_lowered, expired_area, timed_out, report_number, expired_report, rx_on_lin, rx_expiry, expiry_report}
 
 -- the failure bit is all that an expiry writes by the claims
 pub failed : (a : List ℕ) (r : ℕ) → all_done (order a) (expired r) (claims a r) a ≡ failure_written (order a) 1 a (rx_fields_place a r)
@@ -35,6 +39,11 @@ expired_is a r at h e narrow =
     let frame = rx_frame_kept (Kept-failure (order a) 1 a at narrow) r h in
     let same : (rx_frame a r).long ≡ (rx_there a at).long = unfold rx_frame rx_at in rw e in
     rw (failed a r, ← e, off, frame, same)
+
+-- the byte of a timeout
+pub timeout_reported : (a : List ℕ) (r : ℕ) → report_number (Some (timed_out a r)) ≡ expired_report a r
+unfolding timed_out report_number expired_report
+timeout_reported a r = into (λ t. report_number (Some t)) (eqb (byte_at a (long r)) 1) Long Short
 
 -- a timer's own step leaves the long counters
 pub report_set : (a : List ℕ) (r p v : ℕ) → p < long_start → expired_report (set a p v) r ≡ expired_report a r

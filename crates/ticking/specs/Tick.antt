@@ -1,5 +1,5 @@
 -- "Tick. .. The counter moves on last. .. Tx timers go first, in number order: expiry reloads and schedules. Rx timers follow, in number order."
-use Rattle.std.specs.Prelude.{ℕ, zero, suc, ◌+◌, Bool, List, leb, eqb, length, set, Result, Ok, Err}
+use Rattle.std.specs.Prelude.{ℕ, zero, suc, ◌+◌, Bool, List, leb, eqb, length, set, Option, Some, None, Result, Ok, Err}
 use Rattle.base.specs.Pick.{pick}
 use Rattle.base.specs.Numbers.{byte_at}
 use Rattle.records.specs.Nodes.{is_lin}
@@ -11,6 +11,8 @@ use Rattle.area.specs.Queue.{scheduled, requested}
 use Rattle.area.specs.Claims.{expired, all_done}
 use Rattle.answers.specs.declared.Refusal.{Refusal}
 use Rattle.answers.specs.declared.Refusal.TheVariants.{NotOpen, ShortReport}
+use Rattle.answers.specs.declared.Timeout.{Timeout}
+use Rattle.answers.specs.declared.Timeout.TheVariants.{Short, Long}
 
 -- ---- a timer at a place
 
@@ -41,6 +43,16 @@ long_lowered a r = set a (long r) (lowered (rx_frame a r).long (byte_at a (long 
 
 unfoldable pub expired_area : List ℕ → ℕ → List ℕ
 expired_area a r = long_lowered (all_done (order a) (expired r) (claims a r) a) r
+
+-- the timeout of Rx frame r
+unfoldable pub timed_out : List ℕ → ℕ → Timeout
+timed_out a r = pick (eqb (byte_at a (long r)) 1) Long Short
+
+-- its byte of the report: "0 nothing, 1 short, 2 long"
+unfoldable pub report_number : Option Timeout → ℕ
+report_number None = 0
+report_number (Some Short) = 1
+report_number (Some Long) = 2
 
 -- "1 short, 2 long"
 unfoldable pub expired_report : List ℕ → ℕ → ℕ

@@ -5,7 +5,7 @@ ghost use Rattle.ticking.specs.Tick.{rx_tick, rx_report, rx_ticks, reported, exp
 ghost use Rattle.ticking.specs.Sixteen.{rx_step};
 
 use crate::by_sixteens::ticks;
-use crate::expiry::expiry;
+use crate::expiry::{expiry, report_byte};
 use area::layout::{rx_mask, rx_reload, rx_timer};
 use clock::counter::no_common_bit;
 use records::record::RxNumber;
@@ -45,5 +45,5 @@ pub fn rx_step(area: &mut [u8], r: RxNumber) -> u8
 {
     let s = clock::timer::step_timer(area[rx_reload(r)], 1);
     area[rx_timer(r)] = s.count;
-    expiry(area, r)
+    report_byte(expiry(area, r))
 }

@@ -3,7 +3,7 @@ use mathlib.Core.Path.{sym, ◌∙◌}
 use borrow.Author.Tests.{ltb-true, ltb-false}
 use Rattle.std.proofs.lemmas.Result.{err_from_is_err_and}
 use Rattle.area.specs.Layout.{node_count}
-use Rattle.polling.proofs.Outcomes.{silent_not_open, silent_no_node, silent_wrong_call, times_out_long, times_out_short}
+use Rattle.polling.proofs.Outcomes.{silent_not_open, silent_no_node, silent_wrong_call, times_out}
 use Rattle.polling.proofs.silence.no_response.Goals as goal
 
 pub returns-in_err-check_open : goal.returns-in_err-check_open
@@ -36,18 +36,10 @@ pub expire-requires : goal.expire-requires
 expire-requires c =
     (c.row_in_range.ensures.1, c.in_ok-check_open.ensures.1)
 
-pub returns-then-expire-eq2 : goal.returns-then-expire-eq2
-returns-then-expire-eq2 c =
-    let v = c.args in
-    let out = c.expire.ensures in
-    let all = times_out_long v.area.now v.node v.id c.in_ok-check_open.ensures.0
-    (ltb-true v.node (node_count v.area.now) c.in_ok-check_node.ensures.0) _
-    (sym c.polled_row-found.ensures ∙ c.in-At.is) _ c.row_in_range.ensures.0 out.bytes (sym out.report ∙ c.if-expire-eq2.true) in record { answer = all.0; bytes = all.1 }
-
 pub returns : goal.returns
 returns c =
     let v = c.args in
     let out = c.expire.ensures in
-    let all = times_out_short v.area.now v.node v.id c.in_ok-check_open.ensures.0
+    let all = times_out v.area.now v.node v.id c.in_ok-check_open.ensures.0
     (ltb-true v.node (node_count v.area.now) c.in_ok-check_node.ensures.0) _
-    (sym c.polled_row-found.ensures ∙ c.in-At.is) _ c.row_in_range.ensures.0 out.bytes (λ e. c.if-expire-eq2.false (out.report ∙ e)) in record { answer = all.0; bytes = all.1 }
+    (sym c.polled_row-found.ensures ∙ c.in-At.is) _ c.row_in_range.ensures.0 out.bytes out.timeout in record { answer = all.0; bytes = all.1 }

@@ -12,4 +12,4 @@ shape_of-area c = c.expiry.auto.area ∙ simp length-set
 pub returns : goal.returns
 unfolding rx_step
 returns c =
-    record { report = c.expiry.ensures.report ∙ rw c.rx_timer.ensures (report_apart _ _ (omega arith) (omega arith) _ _ (omega arith)); bytes = cc }
+    record { report = c.report_byte.ensures ∙ c.expiry.ensures.report ∙ rw c.rx_timer.ensures (report_apart _ _ (omega arith) (omega arith) _ _ (omega arith)); bytes = cc }

@@ -1,8 +1,8 @@
 // Document 01's bench program: a plan and events on standard input, a line for each on standard output.
 #![tactic(auto)]
 
-ghost use Rattle.std.specs.Prelude.{◌≡◌, ◌+◌, ◌%◌, ◌≤◌, length, replicate, Some, OnOk, IfOk, IfSome};
-ghost use Rattle.std.specs.Io.KnownBytes.{Appends};
+ghost use Rattle.std.specs.Prelude.{◌≡◌, ◌+◌, ◌%◌, ◌≤◌, ◌<◌, length, take, replicate, Some, OnOk, IfOk, IfSome};
+ghost use Rattle.std.specs.Io.KnownBytes.{Appends, Consumes, IsAtEnd};
 ghost use Rattle.records.specs.Ids.{behind_id};
 ghost use Rattle.area.specs.Layout.{area_length};
 ghost use Rattle.reception.specs.Reception.{received_area};
@@ -14,6 +14,7 @@ ghost use Rattle.output.specs.Output.{received_text, responded_text, silent_text
 ghost use Rattle.output.specs.Output.{event_text, event_area, event_next, text_from, open_of, plan_text, bench_output};
 
 use area::layout::AREA_LENGTH;
+use buffered::Buffered;
 use events::{Event, event_at, front_of, payload_at};
 use lines::{BadLine, PlanLine, ReceptionLine, ResponseLine, SilenceLine, TakeLine, TickLine};
 use opening::open::open;
@@ -21,8 +22,7 @@ use polling::respond::respond;
 use polling::silence::no_response;
 use reception::receive::receive;
 use records::record::Id;
-use std::alloc::Allocator;
-use std::io::{self, BufWriter, Read, Write};
+use std::io::{self, Read, Write};
 use taking::{payload, take};
 use ticking::tick::tick;
 
@@ -204,35 +204,45 @@ fn run<W: Write>(input: &[u8], out: &mut W) -> io::Result<()>
     }
 }
 
+// Reads until the buffer is full, the input ends or a read fails, and answers how many bytes it read.
+fn read_input<R: Read>(reader: &mut R, buf: &mut [u8]) -> (usize, io::Result<()>)
+    ensures inside { result.0 ≤ length buf.new }
+    ensures bytes { Consumes (R.remaining reader.old) (R.remaining reader.new) (take result.0 buf.new) }
+    ensures end { OnOk result.1 (result.0 < length buf.new → IsAtEnd (R.remaining reader.new)) }
+{
+    let mut done = 0;
+    while done < buf.len() {
+        match reader.read(&mut buf[done..]) {
+            Ok(0) => return (done, Ok(())),
+            Ok(n) => done += n,
+            Err(e) => return (done, Err(e)),
+        }
+    }
+    (done, Ok(()))
+}
+
 // The output for the whole input, to a writer that is handed back.
-fn written<A: Allocator, W: Write + Drop>(alloc: A, input: &[u8], writer: W) -> io::Result<W>
+fn written<W: Write + Drop>(input: &[u8], writer: W) -> io::Result<W>
     ensures { IfOk result (λ w. Appends (W.contents writer) (W.contents w) (bench_output input.now)) }
 {
-    let mut out = BufWriter::with_capacity(alloc, 65536, writer)?;
+    let mut out = Buffered::new(writer);
     run(input, &mut out)?;
-    match out.into_inner() {
-        Ok(writer) => Ok(writer),
-        Err(e) => Err(e.into_error()),
-    }
+    out.finish()
 }
 
 // From a reader to a writer, which is handed back. Where nothing failed, what is written is the output for all the reader's bytes: of input that is too
 // long no more is read than shows that. A read that fails ends the input.
-fn serve<A: Allocator + Copy, R: Read + Drop, W: Write + Drop>(
-    alloc: A,
-    reader: R,
-    writer: W,
-) -> io::Result<W>
-    ensures { IfOk result (λ w. IfSome (R.remaining reader)
+fn serve<R: Read, W: Write + Drop>(reader: &mut R, writer: W) -> io::Result<W>
+    ensures { IfOk result (λ w. IfSome (R.remaining reader.old)
         (λ input. Appends (W.contents writer) (W.contents w) (bench_output input))) }
 {
-    let mut input = Vec::new(alloc);
-    let read = reader.take(65537).read_to_end(&mut input);
-    let writer = written(alloc, &input, writer)?;
+    let mut input = [0u8; 65537];
+    let (size, read) = read_input(reader, &mut input);
+    let writer = written(&input[..size], writer)?;
     read?;
     Ok(writer)
 }
 
 fn main(rt: HostRuntime) {
-    let _ = serve(rt.alloc(), rt.stdin(), rt.stdout());
+    let _ = serve(&mut rt.stdin(), rt.stdout());
 }

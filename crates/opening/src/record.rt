@@ -63,7 +63,7 @@ fn with_tx_timer(area: &mut [u8], t: TxNumber, x: TxFrame)
     area[tx_mask] = tx_bits;
 }
 
-// The initial payload of Tx frame `t`.
+// The initial payload of Tx frame `t`. Eight stores, since copy_from_slice asks first whether the two overlap.
 fn with_payload(area: &mut [u8], t: TxNumber, bytes: [u8; 8])
     requires { (t.0 < 256) × LongEnough area.old }
     ensures { area.new ≡ with_payload t.0 bytes area.old }

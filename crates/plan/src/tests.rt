@@ -17,7 +17,7 @@ fn is_prescaler(p: u8) -> bool
     (p == 1) | (p == 2) | (p == 10) | (p == 20)
 }
 
-// Whether the bytes past the size are zero; past eight there is none.
+// Whether the bytes past the size are zero; past eight there is none. An iterator over them took 16 bytes of stack more than an opening may.
 fn zero_past(size: u8, payload: [u8; 8]) -> bool
     ensures { result ≡ zero_past size payload }
 {

@@ -23,6 +23,7 @@ fn eight_at(plan: &[u8], at: usize) -> [u8; 8]
 }
 
 // The Tx frame of a node and an ID whose fields behind the ID begin at a place, and so the Rx frame.
+#[tactic(auto, unfolding(crate::specs::Kinds::tx_at))]
 fn tx_at(node: u8, id: Id, plan: &[u8], at: usize) -> TxFrame
     requires { at + tx_fields ≤ length plan.now }
     ensures { result ≡ tx_at node id plan.now at }
@@ -40,6 +41,7 @@ fn tx_at(node: u8, id: Id, plan: &[u8], at: usize) -> TxFrame
     }
 }
 
+#[tactic(auto, unfolding(crate::specs::Kinds::rx_at))]
 fn rx_at(node: u8, id: Id, plan: &[u8], at: usize) -> RxFrame
     requires { at + rx_fields ≤ length plan.now }
     ensures { result ≡ rx_at node id plan.now at }
@@ -58,6 +60,7 @@ fn rx_at(node: u8, id: Id, plan: &[u8], at: usize) -> RxFrame
 }
 
 // The records of both, with their ID.
+#[tactic(auto, unfolding(crate::specs::Kinds::tx_record))]
 fn tx_record(id: Id, plan: &[u8], at: usize) -> Record
     requires { at + behind_id id + tx_fields ≤ length plan.now }
     ensures { result ≡ tx_record id plan.now at }
@@ -66,6 +69,7 @@ fn tx_record(id: Id, plan: &[u8], at: usize) -> Record
     Record::Tx(tx_at(plan[at + 1], id, plan, fields))
 }
 
+#[tactic(auto, unfolding(crate::specs::Kinds::rx_record))]
 fn rx_record(id: Id, plan: &[u8], at: usize) -> Record
     requires { at + behind_id id + rx_fields ≤ length plan.now }
     ensures { result ≡ rx_record id plan.now at }
@@ -74,6 +78,7 @@ fn rx_record(id: Id, plan: &[u8], at: usize) -> Record
     Record::Rx(rx_at(plan[at + 1], id, plan, fields))
 }
 
+#[tactic(auto, unfolding(crate::specs::Kinds::fields_at, crate::specs::Kinds::form_of, base::specs::Pick::pick))]
 fn signal_at(plan: &[u8], at: usize) -> SignalBody
     requires { at + 3 ≤ length plan.now }
     ensures { Signal result ≡ fields_at 5 plan.now at }
@@ -84,6 +89,7 @@ fn signal_at(plan: &[u8], at: usize) -> SignalBody
     }
 }
 
+#[tactic(auto, unfolding(crate::specs::Kinds::fields_at, crate::specs::Kinds::form_of, base::specs::Pick::pick))]
 fn destination_at(plan: &[u8], at: usize) -> DestinationBody
     requires { at + 4 ≤ length plan.now }
     ensures { Destination result ≡ fields_at 6 plan.now at }
@@ -172,6 +178,7 @@ fn fields_at(kind: Kind, plan: &[u8], at: usize) -> Record
 }
 
 // The stage of a record, which one that is cut short has by its kind byte; 0 where that is no kind, and at the end.
+#[tactic(auto, unfolding(crate::specs::Kinds::stage_of))]
 pub fn stage_of(r: Record) -> u8
     ensures { result ≡ stage_of r }
 {
@@ -196,7 +203,7 @@ fn fault_stage(fault: Fault) -> u8
 }
 
 // A record, and the place behind it.
-#[derive(Clone, Copy)]
+#[derive(Clone, Copy, Debug, PartialEq, Eq)]
 pub struct Step {
     pub found: Record,
     pub next: usize,

@@ -5,14 +5,14 @@ ghost use Rattle.records.specs.Reading.{step_at, read_on};
 use crate::decode::Step;
 use crate::record::Record;
 
-#[derive(Clone, Copy)]
+#[derive(Clone, Copy, Debug, PartialEq, Eq)]
 pub struct Reader<'a> {
     pub plan: &'a [u8],
     pub at: usize,
 }
 
 // The record that a reader stood on, and the reader behind it.
-#[derive(Clone, Copy)]
+#[derive(Clone, Copy, Debug, PartialEq, Eq)]
 pub struct Read<'a> {
     pub found: Record,
     pub rest: Reader<'a>,

@@ -3,28 +3,28 @@ ghost use Rattle.std.specs.Prelude.{◌≡◌, ◌^◌, ◌≤◌, ◌<◌};
 ghost use Rattle.records.specs.Ids.{plain_id, behind_id, key_of};
 
 // The number of an Rx frame, and that of a Tx frame: they count separate tables, and one never stands for the other.
-#[derive(Clone, Copy)]
+#[derive(Clone, Copy, Debug, PartialEq, Eq, PartialOrd, Ord)]
 pub struct RxNumber(pub usize);
 
-#[derive(Clone, Copy)]
+#[derive(Clone, Copy, Debug, PartialEq, Eq, PartialOrd, Ord)]
 pub struct TxNumber(pub usize);
 
 // What a node is: a CAN node, or one of a LIN bus whose master we are.
-#[derive(Clone, Copy)]
+#[derive(Clone, Copy, Debug, PartialEq, Eq)]
 pub enum NodeType {
     Can,
     Lin,
 }
 
 // What waits in a node's queue: a Tx frame, or the request for an Rx frame of a LIN node.
-#[derive(Clone, Copy)]
+#[derive(Clone, Copy, Debug, PartialEq, Eq)]
 pub enum Entry {
     Frame(TxNumber),
     Request(RxNumber),
 }
 
 // The ID of a frame, with its format: 11 bits, or the 29 bits of an extended frame. ID 32 in one format is not ID 32 in the other.
-#[derive(Clone, Copy)]
+#[derive(Clone, Copy, Debug, PartialEq, Eq)]
 pub enum Id {
     Standard(usize),
     Extended(usize),
@@ -37,6 +37,7 @@ const LAST_NUMBER: usize = 2147483647;
 
 impl Id {
     // The number alone.
+    #[tactic(auto, unfolding(crate::specs::Ids::plain_id))]
     pub fn plain(self) -> usize
         ensures { result ≡ plain_id self }
     {
@@ -47,6 +48,7 @@ impl Id {
     }
 
     // How many bytes a record with this ID has before its fields behind the ID.
+    #[tactic(auto, unfolding(crate::specs::Ids::behind_id))]
     pub fn behind(self) -> usize
         ensures { (result ≡ behind_id self) × (result ≤ 6) }
     {
@@ -57,6 +59,7 @@ impl Id {
     }
 
     // The number by which rows are ordered and searched: the format is its highest bit.
+    #[tactic(auto, unfolding(crate::specs::Ids::key_of))]
     pub fn key(self) -> usize
         ensures { (result ≡ key_of self) × (result < 2 ^ 32) }
     {
@@ -67,7 +70,7 @@ impl Id {
     }
 }
 
-#[derive(Clone, Copy)]
+#[derive(Clone, Copy, Debug, PartialEq, Eq)]
 pub struct TxFrame {
     pub node: u8,
     pub id: Id,
@@ -80,7 +83,7 @@ pub struct TxFrame {
     pub payload: [u8; 8],
 }
 
-#[derive(Clone, Copy)]
+#[derive(Clone, Copy, Debug, PartialEq, Eq)]
 pub struct RxFrame {
     pub node: u8,
     pub id: Id,
@@ -93,25 +96,26 @@ pub struct RxFrame {
     pub long: u8,
 }
 
-#[derive(Clone, Copy)]
+#[derive(Clone, Copy, Debug, PartialEq, Eq)]
 pub struct NodeBody {
     pub of: u8,
 }
 
-#[derive(Clone, Copy)]
+#[derive(Clone, Copy, Debug, PartialEq, Eq)]
 pub struct SignalBody {
     pub position: u8,
     pub size: u8,
 }
 
-#[derive(Clone, Copy)]
+#[derive(Clone, Copy, Debug, PartialEq, Eq)]
 pub struct DestinationBody {
     pub tx: TxNumber,
     pub position: u8,
 }
 
-// What follows an Rx frame: its signals, and their destinations.
-#[derive(Clone, Copy)]
+// What follows an Rx frame: its signals, and their destinations. With an Option of the first two an opening was above its bound of
+// instructions, by one a record of the check.
+#[derive(Clone, Copy, Debug, PartialEq, Eq)]
 pub enum Follower {
     Signal(SignalBody),
     Destination(DestinationBody),
@@ -120,7 +124,7 @@ pub enum Follower {
 }
 
 // Why there is no whole record at a place.
-#[derive(Clone, Copy)]
+#[derive(Clone, Copy, Debug, PartialEq, Eq)]
 pub enum Fault {
     // the plan ends here
     End,
@@ -130,7 +134,7 @@ pub enum Fault {
     Cut { kind: u8 },
 }
 
-#[derive(Clone, Copy)]
+#[derive(Clone, Copy, Debug, PartialEq, Eq)]
 pub enum Record {
     Head { order: u8 },
     Node(NodeBody),

@@ -128,20 +128,41 @@ pub fn check_with(plan: &[u8], sets: &mut [u64]) -> Result<PlanCounts, BadRecord
     let mut sizes = [0u8; MOST_TX];
     let mut p = begin();
     let mut at = 0;
+    // by match: `?` moves the progress once more at each record
     while at < plan.len() {
-        match follower_at(plan, at) {
+        let follower = follower_at(plan, at);
+        match follower {
             Follower::Signal(body) => {
-                p = judge_signal(p, body)?;
-                at = at + SIGNAL_BYTES;
+                let next = judge_signal(p, body);
+                match next {
+                    Ok(q) => {
+                        p = q;
+                        at = at + SIGNAL_BYTES;
+                    }
+                    Err(bad) => return Err(bad),
+                }
             }
             Follower::Destination(body) => {
-                p = judge_destination(p, body, &sizes, sets)?;
-                at = at + DESTINATION_BYTES;
+                let next = judge_destination(p, body, &sizes, sets);
+                match next {
+                    Ok(q) => {
+                        p = q;
+                        at = at + DESTINATION_BYTES;
+                    }
+                    Err(bad) => return Err(bad),
+                }
             }
             Follower::Other => {
                 let read = read_record(plan, at);
-                p = judge_other(p, read.found, &mut sizes)?;
-                at = read.next;
+                let found = read.found;
+                let next = judge_other(p, found, &mut sizes);
+                match next {
+                    Ok(q) => {
+                        p = q;
+                        at = read.next;
+                    }
+                    Err(bad) => return Err(bad),
+                }
             }
         }
     }

@@ -20,9 +20,7 @@ pub fn claim(
     requires { (0 < size) × (q + size ≤ 64) × (room ≤ 64) }
     ensures { result ≡ claimed set q size awaits position room }
 {
-    let Some(joined) = join(set, q as u64, size as u64) else {
-        return Err(Reason::Owner);
-    };
+    let joined = join(set, q as u64, size as u64).ok_or(Reason::Owner)?;
     if awaits == 0 {
         return Ok(joined);
     }
@@ -30,8 +28,5 @@ pub fn claim(
     if room <= p {
         return Err(Reason::Indicator);
     }
-    let Some(both) = join(joined, p as u64, 1) else {
-        return Err(Reason::Owner);
-    };
-    Ok(both)
+    join(joined, p as u64, 1).ok_or(Reason::Owner)
 }

@@ -10,7 +10,7 @@ use plan::verdict::{BadRecord, Reason};
 use records::record::{Id, RxNumber, TxNumber};
 
 // Why a call is refused.
-#[derive(Clone, Copy)]
+#[derive(Clone, Copy, Debug, PartialEq, Eq)]
 pub enum Refusal {
     // 1 to 9: the plan is refused
     Plan(Reason),
@@ -58,7 +58,7 @@ impl From<Reason> for Refusal {
 }
 
 // A plan that is not opened: why, and the number of the record that is refused; 0 where the area is short.
-#[derive(Clone, Copy)]
+#[derive(Clone, Copy, Debug, PartialEq, Eq)]
 pub struct RefusedPlan {
     pub why: Refusal,
     pub record_number: usize,
@@ -113,7 +113,7 @@ pub enum Framing {
     Lin { protected: u8, checksum: u8 },
 }
 
-#[derive(Clone, Copy)]
+#[derive(Clone, Copy, Debug, PartialEq, Eq)]
 pub struct TakenFrame {
     pub tx: TxNumber,
     pub id: Id,
@@ -124,7 +124,7 @@ pub struct TakenFrame {
 }
 
 // A request for an Rx frame of a LIN node, which has no payload.
-#[derive(Clone, Copy)]
+#[derive(Clone, Copy, Debug, PartialEq, Eq)]
 pub struct TakenRequest {
     pub rx: RxNumber,
     pub id: Id,
@@ -134,7 +134,7 @@ pub struct TakenRequest {
 }
 
 // What leaves a node's queue.
-#[derive(Clone, Copy)]
+#[derive(Clone, Copy, Debug, PartialEq, Eq)]
 pub enum Taken {
     Frame(TakenFrame),
     Request(TakenRequest),

@@ -8,7 +8,7 @@ pub struct Timer {
     pub count: u8,
 }
 
-// The answer to a caller whose timer is no record: the new count, and whether it expired.
+// The answer to a caller whose timer is no record: the new count, and whether it expired. Both are always there, so it is no Option.
 #[derive(Clone, Copy, Debug, PartialEq, Eq)]
 pub struct Stepped {
     pub count: u8,

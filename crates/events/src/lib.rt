@@ -63,7 +63,7 @@ impl Kind {
     }
 }
 
-#[derive(Clone, Copy)]
+#[derive(Clone, Copy, Debug, PartialEq, Eq)]
 pub enum Event {
     // of kind 16 or, with a 29-bit ID, 19; the data stand by place: eight bytes behind the length, which follows the ID
     Reception {

@@ -16,7 +16,7 @@ fn clear(area: &mut [u8], from: usize, n: usize)
     }
 }
 
-// The plan is copied to its place.
+// The plan is copied to its place. By the byte: `copy_from_slice` asks C for memmove, which the static library does not bring.
 fn lay(plan: &[u8], area: &mut [u8])
     requires { (length plan.now ≤ plan_room) × LongEnough area.old }
     ensures { area.new ≡ laid plan.now (length plan.now) area.old }

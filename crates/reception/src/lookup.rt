@@ -8,7 +8,7 @@ ghost use Rattle.reception.specs.Lookup.{found_of, look_in, looked_up, place_in}
 use area::rows::{first_row, key_at, row_count};
 use records::record::{Id, RxNumber};
 
-#[derive(Clone, Copy)]
+#[derive(Clone, Copy, Debug, PartialEq, Eq)]
 pub enum Found {
     At(RxNumber),
     // no row has the ID; `place` of the node's rows have a smaller one

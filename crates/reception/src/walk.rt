@@ -24,6 +24,7 @@ pub fn walk(order: u8, payload: &[u8], area: &mut [u8], from: usize)
         bits: 0,
         ones: 0,
     };
+    // by places: the plan stands in the area that is written, so that no part of it can be lent beside it
     while at + DESTINATION_BYTES <= PLAN_ROOM {
         let kind = plan_byte(area, at);
         if kind == DESTINATION_KIND {

@@ -18,6 +18,7 @@ pub fn ticks<const RX: bool>(area: &mut [u8], n: usize, k: u8, report: &mut [u8]
     // so many stand in full sixteens
     let full = n - n % 16;
     let mut from = 0;
+    // no `for` over the sixteens: it took 11 instructions more for 16 Tx timers, 56 for 256
     while from < full {
         sixteen::<RX>(area, from, k, report);
         from += 16;

@@ -6,7 +6,9 @@ ghost use Rattle.interface.specs.Structs.{opened_struct, received_struct, ticked
 ghost use Rattle.interface.specs.Structs.{id_in, word_of, protected_in, checksum_in, nothing_taken, taken_struct};
 ghost use Rattle.interface.specs.Back.{taken_of};
 
-use answers::{Framing, Received, Refusal, RefusedPlan, Responded, Taken, TakenFrame, TakenRequest, Timeout};
+use answers::{
+    Framing, Received, Refusal, RefusedPlan, Responded, Taken, TakenFrame, TakenRequest, Timeout,
+};
 use area::layout;
 use area::layout::{AREA_LENGTH, in_width};
 use base::at_most;

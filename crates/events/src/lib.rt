@@ -180,7 +180,7 @@ pub fn event_at(input: &[u8], at: usize) -> Option<Event>
 #[tactic(auto, unfolding(crate::specs::Events::payload_at, base::specs::Pick::pick))]
 pub fn payload_at(input: &[u8], at: usize) -> &[u8]
     requires { at + 9 ≤ length input.now }
-    ensures { result.now ≡ payload_at input.now at }
+    ensures { (result.now ≡ payload_at input.now at) × (length result.now ≤ 9) }
 {
     let length = usize::from(input[at]);
     if 8 < length {

@@ -3,12 +3,14 @@ use mathlib.Core.Path.{◌≡◌, refl, ap, ◌∙◌}
 use mathlib.Core.List.{List, [], ◌∷◌}
 use Prim.Native.Nat.{ℕ, ◌+◌, ◌%◌, ◌<◌, ◌≤◌}
 use native.Mathlib.Omega.{arith}
+use Rattle.bits.specs.Order.{order_told}
 use Rattle.bits.specs.Payload.{set_bit}
 use Rattle.bits.specs.Word.{fitting}
 use Rattle.bits.proofs.Fitting.{fitting_is}
+use Rattle.bits.proofs.OrderLaws.{set_bit_told, copied_told, differs_told}
 use Rattle.plan.specs.Rows.{Source, copy, failure, width_of, Claim}
 use Rattle.area.specs.Layout.{spot}
-use Rattle.area.specs.Claims.{RxEvent, accepted, expired, done_by, sent_by, done, all_done}
+use Rattle.area.specs.Claims.{RxEvent, accepted, expired, done_by, sent_by, done, all_done, failure_written}
 use Rattle.area.proofs.Frame.{Narrow}
 
 abbrev pub claim_of : ℕ → ℕ → ℕ → Source → Claim
@@ -58,6 +60,37 @@ module _ (o n : ℕ) where
   unfolding all_done
   all_done-numbered e [] a = refl
   all_done-numbered e (c ∷ cs) a = all_done-numbered e cs _ ∙ ap (all_done o e cs) (done-numbered e a c)
+
+-- ---- the order is that which the head's byte tells
+
+module _ (byte : ℕ) where
+  done_told : (e : RxEvent) (a : List ℕ) (c : Claim) → done (order_told byte) e a c ≡ done byte e a c
+  unfolding done done_by sent_by
+  done_told e a c = go e c.from
+    where
+      t : ℕ
+      t = c.tx % 256
+
+      to : ℕ → RxEvent → Source → List ℕ
+      to o e s = sent_by o e a (done_by o e a (spot t c.at) s) t (spot t c.at) s
+
+      go : (e : RxEvent) (s : Source) → to (order_told byte) e s ≡ to byte e s
+      go (accepted r pl) (copy p s) = rw (
+        copied_told byte pl p (fitting (spot t c.at) s) a (spot t c.at),
+        differs_told byte pl p (fitting (spot t c.at) s) a (spot t c.at),
+      )
+      go (accepted r pl) failure = set_bit_told byte a (spot t c.at) 0
+      go (expired r) (copy p s) = refl
+      go (expired r) failure = set_bit_told byte a (spot t c.at) 1
+
+  pub all_done_told : (e : RxEvent) (cs : List Claim) (a : List ℕ) → all_done (order_told byte) e cs a ≡ all_done byte e cs a
+  unfolding all_done
+  all_done_told e [] a = refl
+  all_done_told e (c ∷ cs) a = all_done_told e cs _ ∙ ap (all_done byte e cs) (done_told e a c)
+
+  pub failure_written_told : (v : ℕ) (a : List ℕ) (at : ℕ) → failure_written (order_told byte) v a at ≡ failure_written byte v a at
+  unfolding failure_written
+  failure_written_told v a at = rw (set_bit_told byte a _ v)
 
 -- ---- a signal that fits its Tx frame's payload is copied whole: payloads begin at a byte
 

@@ -1,6 +1,7 @@
 // What an accepted payload and an expired timer do to the bits that an Rx frame owns in the kept payloads.
 ghost use Rattle.std.specs.Prelude.{◌≡◌, List, ℕ, ◌≤◌, ◌<◌};
 ghost use Rattle.base.specs.Numbers.{at_most};
+ghost use Rattle.bits.specs.Order.{order_number};
 ghost use Rattle.bits.specs.Word.{Bits, ones_of};
 ghost use Rattle.plan.specs.Rows.{copy};
 ghost use Rattle.area.specs.Layout.{last_place, LongEnough, rx_there};
@@ -9,6 +10,7 @@ ghost use Rattle.area.specs.Claims.{accepted, sends_on_change, sends_on_receptio
 use crate::frames::{failure_tx, rx_enable, rx_position, tx_flags};
 use crate::layout::PAYLOADS_START;
 use crate::queue::schedule;
+use bits::order::Order;
 use bits::signal::{Signal, put_signal};
 use records::record::TxNumber;
 
@@ -51,9 +53,9 @@ fn send_if(flags: Flags, changed: bool, area: &mut [u8], t: TxNumber)
 
 // The failure bit of the Rx frame whose fields begin at `at` becomes `v`, where its indicator is enabled. That schedules nothing.
 #[tactic(auto, unfolding(crate::specs::Claims::failure_written, base::specs::Pick::pick))]
-pub fn write_failure(order: u8, v: u8, area: &mut [u8], at: usize)
+pub fn write_failure(order: Order, v: u8, area: &mut [u8], at: usize)
     requires { (v < 2) × (at ≤ last_place) × LongEnough area.old }
-    ensures bytes { area.new ≡ failure_written order v area.old at }
+    ensures bytes { area.new ≡ failure_written (order_number order) v area.old at }
     ensures narrow { (rx_there area.old at).position < 256 }
 {
     let q = rx_position(area, at);
@@ -65,10 +67,10 @@ pub fn write_failure(order: u8, v: u8, area: &mut [u8], at: usize)
 
 // A signal of an accepted payload goes to position `q` of a Tx frame's payload. What it promises holds of each payload that the signal can have been
 // taken from.
-pub fn copy_claim(order: u8, signal: Signal, area: &mut [u8], t: TxNumber, q: usize)
-    requires { (signal.ones ≡ ones_of order (at_most 64 signal.size)) × (t.0 < 256) × (q < 256) × LongEnough area.old }
-    ensures { (source : List ℕ) → Bits order signal.bits source signal.position signal.size
-        → area.new ≡ done order (accepted 0 source) area.old
+pub fn copy_claim(order: Order, signal: Signal, area: &mut [u8], t: TxNumber, q: usize)
+    requires { (signal.ones ≡ ones_of (order_number order) (at_most 64 signal.size)) × (t.0 < 256) × (q < 256) × LongEnough area.old }
+    ensures { (source : List ℕ) → Bits (order_number order) signal.bits source signal.position signal.size
+        → area.new ≡ done (order_number order) (accepted 0 source) area.old
         (record { rx = 0; tx = t.0; at = q; from = copy signal.position signal.size }) }
 {
     let flags = Flags(tx_flags(area, t));

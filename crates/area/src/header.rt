@@ -1,9 +1,13 @@
 // The area's header.
 ghost use Rattle.std.specs.Prelude.{◌≡◌, true, ◌≤◌, ◌<◌, ltb};
-ghost use Rattle.area.specs.Layout.{LongEnough, marked, node_count, type_on, tx_count, rx_count};
+ghost use Rattle.bits.specs.Order.{order_number, order_told};
+ghost use Rattle.area.specs.Layout.{LongEnough, marked, order, node_count, type_on, tx_count, rx_count};
 
-use crate::layout::{AREA_LENGTH, CAN_COUNT_BYTE, NODE_COUNT_BYTE, RX_COUNT_BYTES, TX_COUNT_BYTES};
+use crate::layout::{
+    AREA_LENGTH, CAN_COUNT_BYTE, NODE_COUNT_BYTE, ORDER_BYTE, RX_COUNT_BYTES, TX_COUNT_BYTES,
+};
 use base::{at_most, wide};
+use bits::order::Order;
 use records::record::NodeType;
 
 // Whether an area was opened: it is long enough and bears the mark, hex 47 and then 57.
@@ -17,6 +21,14 @@ pub fn is_marked(area: &[u8]) -> bool
     let low = wide(area[0]);
     let high = wide(area[1]);
     high * 256 + low == 0x5747
+}
+
+// The order of the plan's bits.
+pub fn order(area: &[u8]) -> Order
+    requires { LongEnough area.now }
+    ensures { order_number result ≡ order_told (order area.now) }
+{
+    Order::from(area[ORDER_BYTE])
 }
 
 // Whether there is a node `n`.

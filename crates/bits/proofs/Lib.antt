@@ -1,6 +1,7 @@
 pub mod DigitLaws
 pub mod ShiftLaws
 pub mod PayloadLaws
+pub mod OrderLaws
 pub mod CopyLaws
 pub mod Fitting
 pub mod OwnerLaws

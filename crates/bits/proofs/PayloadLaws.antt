@@ -1,9 +1,9 @@
 -- Laws of a payload's bits: a bit after one is replaced, what stays, and that a payload's bits say what the payload is. They hold in both
 -- orders, at every length and at every position.
-use mathlib.Core.Path.{◌≡◌, refl}
+use mathlib.Core.Path.{◌≡◌}
 use mathlib.Core.Logic.{◌≢◌}
 use mathlib.Core.List.{List}
-use Prim.Native.Nat.{ℕ, zero, suc, ◌+◌, ◌-◌, ◌*◌, ◌/◌, ◌%◌, ◌<◌}
+use Prim.Native.Nat.{ℕ, zero, suc, ◌+◌, ◌-◌, ◌*◌, ◌/◌, ◌<◌}
 use native.Mathlib.Decide.{dec_lt, ℕ_discrete}
 use native.Mathlib.Omega.{arith}
 use lib.ListN.{length, get_or, set, length-set, get_or-eq_default}
@@ -17,12 +17,6 @@ pub digit_of-lt : (order p : ℕ) → digit_of order p < 8
 unfolding digit_of
 digit_of-lt zero p = omega arith
 digit_of-lt (suc order) p = omega arith
-
--- an order that is not 0 is little
-pub digit_of_little : (order p : ℕ) → (order ≡ 0 → ⊥) → digit_of order p ≡ p % 8
-unfolding digit_of
-digit_of_little zero p d = absurd (d refl)
-digit_of_little (suc order) p d = refl
 
 -- two bits of one byte are two digits of it
 digit_of_apart : (order p q : ℕ) → q / 8 ≡ p / 8 → digit_of order q ≡ digit_of order p → q ≡ p

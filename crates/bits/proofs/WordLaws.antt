@@ -1,7 +1,6 @@
 -- Laws of eight bytes as a number. Bit t of the bytes is one digit of their number, in either order; so is each bit that is taken from them or laid
 -- into them.
 use mathlib.Core.Path.{◌≡◌, refl, sym, ap, ◌∙◌}
-use mathlib.Core.Logic.{◌≢◌}
 use mathlib.Core.List.{List, ◌∷◌, ◌++◌}
 use Prim.Native.Nat.{ℕ, zero, suc, ◌+◌, ◌-◌, ◌*◌, ◌/◌, ◌%◌, ◌^◌, ◌≤◌, ◌<◌}
 use native.Mathlib.Nat.{add-zero, zero-add, suc-add, add-mul, mul_assoc, mul-mod_left, div-eq_of_lt}
@@ -268,20 +267,14 @@ from_none zero x p h l =
     rw (i, pow-add, ← mul_assoc) (mul-mod_left (reversed 8 x * 2 ^ (p - 64)) (2 ^ 64))
 from_none (suc order) x p h l = div-eq_of_lt (omega (arith, pow_mono l))
 
-pub from_little : (order x p : ℕ) → order ≢ 0 → from_bit order x p ≡ x / 2 ^ p
-unfolding from_bit
-from_little zero x p d = absurd (d refl)
-from_little (suc order) x p d = refl
-
 pub ones_none : (order : ℕ) → ones_of order 0 ≡ 0
 unfolding ones_of
 ones_none zero = refl
 ones_none (suc order) = refl
 
-pub ones_little : (order s : ℕ) → order ≢ 0 → s ≤ 64 → ones_of order s ≡ 18446744073709551615 / 2 ^ (64 - s)
+pub ones_little : (s : ℕ) → s ≤ 64 → ones_of 1 s ≡ 18446744073709551615 / 2 ^ (64 - s)
 unfolding ones_of
-ones_little zero s d h = absurd (d refl)
-ones_little (suc order) s d h =
+ones_little s h =
     let e : s + (64 - s) ≡ 64 = omega arith in
     let split : 18446744073709551615 ≡ (2 ^ s - 1) * 2 ^ (64 - s) + (2 ^ (64 - s) - 1) = rw e at (ones_split s (64 - s)) in
     rw split (sym (high (2 ^ s - 1) (64 - s) (ones_lt (64 - s))))
@@ -293,11 +286,3 @@ ones_big s h =
     let split : 18446744073709551615 ≡ (2 ^ (64 - s) - 1) * 2 ^ s + (2 ^ s - 1) = rw e at (ones_split (64 - s) s) in
     let whole : 2 ^ s * 2 ^ (64 - s) ≡ 2 ^ 64 = (let i : s + (64 - s) ≡ 64 = omega arith in rw i at (sym (pow-add 2 s (64 - s)))) in
     rw (split, add-mul, mul_assoc, whole) (sym (low (2 ^ (64 - s) - 1) 64 (unfold ones_of in ones_of-lt 0 s h)))
-
-pub as_big : (order x o : ℕ) → order ≡ 0 → in_bytes 0 x o ≡ in_bytes order x o
-as_big order x o e = rw e
-
-pub as_little : (order x o : ℕ) → order ≢ 0 → in_bytes 1 x o ≡ in_bytes order x o
-unfolding in_bytes
-as_little zero x o d = absurd (d refl)
-as_little (suc order) x o d = refl

@@ -1,4 +1,5 @@
 pub mod Digit
+pub mod Order
 pub mod Payload
 pub mod Owners
 pub mod Word

@@ -1,15 +1,21 @@
 // The binary digits of a byte.
 ghost use Rattle.std.specs.Prelude.{◌≡◌, ◌^◌, ◌<◌};
 ghost use Rattle.bits.specs.Digit.{digit, set_digit};
+ghost use Rattle.bits.specs.Order.{order_number};
 ghost use Rattle.bits.specs.Payload.{digit_of};
 
+use crate::order::Order;
+
 // Which digit of its byte bit `p` is.
-#[tactic(auto, using(crate::proofs::PayloadLaws::digit_of_little), unfolding(crate::specs::Payload::digit_of))]
-pub fn digit_of(order: u8, p: usize) -> u8
-    ensures { (result ≡ digit_of order p) × (result < 8) }
+#[tactic(auto, unfolding(crate::specs::Payload::digit_of))]
+pub fn digit_of(order: Order, p: usize) -> u8
+    ensures { (result ≡ digit_of (order_number order) p) × (result < 8) }
 {
     let within = (p % 8) as u8;
-    if order == 0 { 7 - within } else { within }
+    match order {
+        Order::Big => 7 - within,
+        Order::Little => within,
+    }
 }
 
 // The weight of digit `e`.

@@ -2,6 +2,7 @@
 #![tactic(auto)]
 
 mod digits;
+pub mod order;
 pub mod owners;
 pub mod payload;
 pub mod signal;

@@ -1,17 +1,19 @@
 // The bits of a payload of any length, in either order, and the copy of a signal.
 ghost use Rattle.std.specs.Prelude.{◌≡◌, ◌+◌, ◌*◌, ◌^◌, ◌<◌, ◌≤◌, length};
+ghost use Rattle.bits.specs.Order.{order_number};
 ghost use Rattle.bits.specs.Payload.{set_bit, copied, differs};
 
 use crate::digits;
+use crate::order::Order;
 use crate::signal::{put_signal, take_signal};
 use crate::word::low_first;
 use base::at_most;
 
 // Bit `p` of a payload becomes `v`.
 #[tactic(auto, unfolding(crate::specs::Payload::set_bit))]
-pub fn write_bit(order: u8, payload: &mut [u8], p: usize, v: u8)
+pub fn write_bit(order: Order, payload: &mut [u8], p: usize, v: u8)
     requires { (p < 8 * length payload.old) × (v < 2) }
-    ensures { payload.new ≡ set_bit order payload.old p v }
+    ensures { payload.new ≡ set_bit (order_number order) payload.old p v }
 {
     let i = p / 8;
     let e = digits::digit_of(order, p);
@@ -20,7 +22,7 @@ pub fn write_bit(order: u8, payload: &mut [u8], p: usize, v: u8)
 
 // Source bit `p + k` goes to bit `q + k` of the kept payload, for each `k` below `size`. Answers whether any bit there differed.
 pub fn copy_signal(
-    order: u8,
+    order: Order,
     source: &[u8],
     p: usize,
     size: usize,
@@ -28,8 +30,8 @@ pub fn copy_signal(
     q: usize,
 ) -> bool
     requires { (p + size ≤ 8 * length source.now) × (q + size ≤ 8 * length kept.old) × (p + size < 2 ^ 64) × (q + size < 2 ^ 64) }
-    ensures payload { kept.new ≡ copied order source.now p size kept.old q }
-    ensures answer { result ≡ differs order source.now p size kept.old q }
+    ensures payload { kept.new ≡ copied (order_number order) source.now p size kept.old q }
+    ensures answer { result ≡ differs (order_number order) source.now p size kept.old q }
 {
     let mut changed = false;
     let mut k = 0;

@@ -1,10 +1,12 @@
 // A signal on its way: taken from a payload once, and put into each destination, one store for each byte there.
 ghost use Rattle.std.specs.Prelude.{◌≡◌, not, List, ℕ, ◌+◌, ◌-◌, ◌*◌, ◌^◌, ◌≤◌, ◌<◌, eqb, length};
 ghost use Rattle.base.specs.Numbers.{at_most};
+ghost use Rattle.bits.specs.Order.{order_number};
 ghost use Rattle.bits.specs.Payload.{copied, differs};
 ghost use Rattle.bits.specs.Word.{fitting, Bits, low_first, ones_of, made_up, bytes_stored};
 ghost use Rattle.bits.specs.Signal.{signal_at};
 
+use crate::order::Order;
 use crate::word::{big_bytes, from_bit, little_bytes, low_first, ones_of};
 use base::at_most;
 
@@ -26,8 +28,8 @@ pub fn bytes_of(payload: &[u8]) -> u64
 
 // The signal at a position of eight bytes, `bytes` as such a number.
 #[tactic(auto, unfolding(crate::specs::Signal::signal_at))]
-pub fn take_signal(order: u8, bytes: u64, position: usize, size: usize) -> Signal
-    ensures { result ≡ signal_at order bytes position size }
+pub fn take_signal(order: Order, bytes: u64, position: usize, size: usize) -> Signal
+    ensures { result ≡ signal_at (order_number order) bytes position size }
 {
     let bits = from_bit(order, bytes, position);
     let ones = ones_of(order, at_most(64, size));
@@ -70,26 +72,26 @@ fn put_bytes(kept: &mut [u8], at: usize, new: u64, mask: u64) -> bool
 
 // A signal goes to bit `q` of the kept payload and those after it, as far as the eight bytes there have room. Answers whether any bit there differed.
 // What it promises holds of each payload that the signal can have been taken from.
-pub fn put_signal(order: u8, signal: Signal, kept: &mut [u8], q: usize) -> bool
-    requires { (signal.ones ≡ ones_of order (at_most 64 signal.size)) × (q + fitting q signal.size ≤ 8 * length kept.old) }
-    ensures payload { (source : List ℕ) (p : ℕ) → Bits order signal.bits source p signal.size
-        → kept.new ≡ copied order source p (fitting q signal.size) kept.old q }
-    ensures answer { (source : List ℕ) (p : ℕ) → Bits order signal.bits source p signal.size
-        → result ≡ differs order source p (fitting q signal.size) kept.old q }
+pub fn put_signal(order: Order, signal: Signal, kept: &mut [u8], q: usize) -> bool
+    requires { (signal.ones ≡ ones_of (order_number order) (at_most 64 signal.size)) × (q + fitting q signal.size ≤ 8 * length kept.old) }
+    ensures payload { (source : List ℕ) (p : ℕ) → Bits (order_number order) signal.bits source p signal.size
+        → kept.new ≡ copied (order_number order) source p (fitting q signal.size) kept.old q }
+    ensures answer { (source : List ℕ) (p : ℕ) → Bits (order_number order) signal.bits source p signal.size
+        → result ≡ differs (order_number order) source p (fitting q signal.size) kept.old q }
 {
     let o = (q % 8) as u64;
-    if order == 0 {
-        return put_bytes(
+    match order {
+        Order::Big => put_bytes(
             kept,
             q / 8,
             big_bytes(signal.bits, o),
             big_bytes(signal.ones, o),
-        );
+        ),
+        Order::Little => put_bytes(
+            kept,
+            q / 8,
+            little_bytes(signal.bits, o),
+            little_bytes(signal.ones, o),
+        ),
     }
-    put_bytes(
-        kept,
-        q / 8,
-        little_bytes(signal.bits, o),
-        little_bytes(signal.ones, o),
-    )
 }

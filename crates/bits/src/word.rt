@@ -1,6 +1,9 @@
 // The bits of eight bytes as a number of 64 digits.
 ghost use Rattle.std.specs.Prelude.{◌≡◌, ◌+◌, ◌*◌, ◌^◌, ◌≤◌, ◌<◌, length};
+ghost use Rattle.bits.specs.Order.{order_number};
 ghost use Rattle.bits.specs.Word.{from_bit, ones_of, low_first, in_bytes};
+
+use crate::order::Order;
 
 // The bytes from `at` on as a number, the first lowest, where fewer than eight are left: 0 past the end.
 fn last_at(bytes: &[u8], at: usize) -> u64
@@ -26,16 +29,16 @@ pub fn low_first(bytes: &[u8], at: usize) -> u64
 }
 
 // The bits of eight bytes from bit `p` on. In big order the first byte is the highest.
-pub fn from_bit(order: u8, bytes: u64, p: usize) -> u64
-    ensures { result ≡ from_bit order bytes p }
+pub fn from_bit(order: Order, bytes: u64, p: usize) -> u64
+    ensures { result ≡ from_bit (order_number order) bytes p }
 {
     if 64 <= p {
         return 0;
     }
-    if order == 0 {
-        return bytes.swap_bytes() << p as u64;
+    match order {
+        Order::Big => bytes.swap_bytes() << p as u64,
+        Order::Little => bytes >> p as u64,
     }
-    bytes >> p as u64
 }
 
 // The bits as bytes again in big order, from bit `o` of the first byte on; and in little order.
@@ -56,15 +59,15 @@ pub fn little_bytes(bits: u64, o: u64) -> u64
 }
 
 // A one for each of the first `size` bits.
-pub fn ones_of(order: u8, size: usize) -> u64
+pub fn ones_of(order: Order, size: usize) -> u64
     requires { size ≤ 64 }
-    ensures { result ≡ ones_of order size }
+    ensures { result ≡ ones_of (order_number order) size }
 {
     if size == 0 {
         return 0;
     }
     let rest = (64 - size) as u64;
-    if order == 0 {
+    if let Order::Big = order {
         return u64::MAX << rest;
     }
     u64::MAX >> rest

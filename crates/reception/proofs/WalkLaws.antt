@@ -8,14 +8,15 @@ use Prim.Native.Nat.{ℕ, ◌+◌, ◌%◌, ◌≤◌, ◌<◌}
 use native.Mathlib.Omega.{arith}
 use lib.ListN.{length}
 use Rattle.base.specs.Numbers.{byte_at, two_at}
+use Rattle.bits.specs.Order.{order_told}
 use Rattle.records.specs.Kinds.{rx_fields}
 use Rattle.records.specs.Records.{records_at}
 use Rattle.plan.specs.Rows.{copy, Claim, claims_from}
 use Rattle.area.specs.Layout.{counter_byte, row_bound, rx_timer, long, order, rx_fields_place, stored, rx_there, claims}
 use Rattle.area.specs.Claims.{accepted, done, all_done, failure_written}
 use Rattle.area.proofs.Frame.{Same, Same-refl, Same-set}
-use Rattle.area.proofs.Kept.{Kept, Kept-refl, Kept-low, stored_kept}
-use Rattle.area.proofs.ClaimLaws.{claim_of, all_done-numbered}
+use Rattle.area.proofs.Kept.{Kept, Kept-refl, Kept-low, Kept-then, stored_kept, order_kept}
+use Rattle.area.proofs.ClaimLaws.{claim_of, all_done-numbered, all_done_told, failure_written_told}
 use Rattle.area.proofs.Copies.{copies_destination, copies_signal, copies_stop, copies_end, copies_rx, accepted_claims, Kept-failure, done_low}
 use Rattle.reception.specs.Reception.{restarted, restarted_by, accepted_by}
 use Rattle.reception.specs.Walk.{walked}
@@ -81,10 +82,24 @@ unfolding restarted restarted_by
 Kept-again true a r h = Kept-restarted a r h
 Kept-again false a r h = Kept-low (long (r % 256)) _ (omega arith) (omega arith) (Kept-refl a)
 
+-- the walk goes in the order that the head's byte tells
+pub walked_told :
+    (o : ℕ) (a payload : List ℕ) (from : ℕ) → o ≡ order_told (order a)
+    → walked o payload 0 0 (stored a) from a ≡ walked (order a) payload 0 0 (stored a) from a
+unfolding walked
+walked_told o a payload from told = rw (told, all_done_told)
+
 -- once the row has started again: what an acceptance does
 pub walked_accepted :
-    (timer : Bool) (a : List ℕ) (r : ℕ) (payload b c : List ℕ) → r < row_bound → b ≡ restarted_by timer a r
-    → c ≡ failure_written (order a) 0 b (rx_fields_place a r) → (rx_there b (rx_fields_place a r)).position < 256
-    → walked (order a) payload 0 0 (stored c) (rx_fields_place a r + rx_fields) c ≡ accepted_by timer a r payload
+    (timer : Bool) (a : List ℕ) (r : ℕ) (payload b c : List ℕ) (o : ℕ) → o ≡ order_told (order b) → r < row_bound
+    → b ≡ restarted_by timer a r → c ≡ failure_written o 0 b (rx_fields_place a r) → (rx_there b (rx_fields_place a r)).position < 256
+    → walked (order c) payload 0 0 (stored c) (rx_fields_place a r + rx_fields) c ≡ accepted_by timer a r payload
 unfolding accepted_by
-walked_accepted timer a r payload b c h e f narrow = rw (← e) (walked-claims a r payload b c (rw e (Kept-again timer a r h)) f narrow)
+walked_accepted timer a r payload b c o told h e f narrow =
+    let place = rx_fields_place a r in
+    let kept : Kept a b = rw e (Kept-again timer a r h) in
+    let same : order b ≡ order a = order_kept kept in
+    let written : c ≡ failure_written (order a) 0 b place = f ∙ rw (told, same) (failure_written_told (order a) 0 b place) in
+    let moved : Kept b c = rw written (Kept-failure (order a) 0 b place narrow) in
+    let after : order c ≡ order a = order_kept (Kept-then kept moved) in
+    rw (after, ← e) (walked-claims a r payload b c kept written narrow)

@@ -9,8 +9,8 @@ use answers::{Received, Refusal};
 use area::claims::write_failure;
 use area::frames::{rx_fields_place, rx_long, rx_size};
 use area::guards::{check_node, check_open};
-use area::header::node_type;
-use area::layout::{ORDER_BYTE, long, row_in_range, rx_reload, rx_timer};
+use area::header::{self, node_type};
+use area::layout::{long, row_in_range, rx_reload, rx_timer};
 use records::decode::RX_FIELDS;
 use records::record::{Id, NodeType, RxNumber};
 
@@ -49,10 +49,9 @@ pub fn accept<const TIMER: bool>(area: &mut [u8], r: RxNumber, at: usize, payloa
     requires { (r.0 < row_bound) × (at ≡ rx_fields_place area.old r.0) × (at ≤ last_place) × (length payload.now ≤ 8) × LongEnough area.old }
     ensures { area.new ≡ accepted_by TIMER area.old r.0 payload.now }
 {
-    let order = area[ORDER_BYTE];
     restart::<TIMER>(area, r, at);
-    write_failure(order, 0, area, at);
-    walk(order, payload, area, at + RX_FIELDS);
+    write_failure(header::order(area), 0, area, at);
+    walk(area, at + RX_FIELDS, payload);
 }
 
 // Row `r`, whose fields begin at `at`: the Rx timer takes its reload value, if it starts too, and the long counter the long count.

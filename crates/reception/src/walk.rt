@@ -1,10 +1,11 @@
 // The way of an accepted payload to the bits that its Rx frame owns.
 ghost use Rattle.std.specs.Prelude.{◌≡◌, ◌≤◌, length};
-ghost use Rattle.area.specs.Layout.{plan_room, LongEnough, stored};
+ghost use Rattle.area.specs.Layout.{plan_room, LongEnough, order, stored};
 ghost use Rattle.reception.specs.Walk.{walked};
 
 use area::claims::copy_claim;
 use area::frames::plan_byte;
+use area::header;
 use area::layout::PLAN_ROOM;
 use base::wide;
 use bits::signal::{Signal, bytes_of, take_signal};
@@ -12,10 +13,11 @@ use records::decode::{DESTINATION_BYTES, DESTINATION_KIND, SIGNAL_BYTES, SIGNAL_
 use records::record::TxNumber;
 
 // From place `from` of the plan on: a signal says what is copied, a destination where to, and any other record ends the walk.
-pub fn walk(order: u8, payload: &[u8], area: &mut [u8], from: usize)
+pub fn walk(area: &mut [u8], from: usize, payload: &[u8])
     requires { (length payload.now ≤ 8) × (from ≤ plan_room) × LongEnough area.old }
-    ensures { area.new ≡ walked order payload.now 0 0 (stored area.old) from area.old }
+    ensures { area.new ≡ walked (order area.old) payload.now 0 0 (stored area.old) from area.old }
 {
+    let order = header::order(area);
     let bytes = bytes_of(payload);
     let mut at = from;
     let mut signal = Signal {

@@ -12,6 +12,7 @@ use Rattle.std.specs.Prelude.{Some}
 use Rattle.base.specs.Pick.{pick}
 use Rattle.base.specs.Numbers.{byte_at}
 use Rattle.base.proofs.Picks.{into}
+use Rattle.bits.specs.Order.{order_told}
 use Rattle.clock.specs.Timer.{lowered}
 use Rattle.records.specs.declared.record.NodeType.{NodeType}
 use Rattle.records.specs.declared.record.NodeType.TheVariants.{Can, Lin}
@@ -21,6 +22,7 @@ use Rattle.area.specs.Layout.{long_start, requests_start, long, order, type_on, 
 use Rattle.area.specs.Queue.{requested}
 use Rattle.area.specs.Claims.{expired, all_done, failure_written}
 use Rattle.area.proofs.Kept.{rx_frame_kept}
+use Rattle.area.proofs.ClaimLaws.{failure_written_told}
 use Rattle.area.proofs.Copies.{expired_claims, failure_off, Kept-failure}
 use Rattle.answers.specs.declared.Timeout.TheVariants.{Short, Long}
 use Rattle.ticking.specs.Tick.{long_lowered, expired_area, timed_out, report_number, expired_report, rx_on_lin, rx_expiry, expiry_report}
@@ -31,14 +33,14 @@ unfolding claims
 failed a r = expired_claims (order a) r a (rx_fields_place a r)
 
 pub expired_is :
-    (a : List ℕ) (r at : ℕ) → r < 256 → at ≡ rx_fields_place a r → (rx_there a at).position < 256
-    → set (failure_written (order a) 1 a at) (long r) (lowered (rx_there a at).long (byte_at a (long r))) ≡ expired_area a r
+    (a : List ℕ) (r at o : ℕ) → o ≡ order_told (order a) → r < 256 → at ≡ rx_fields_place a r → (rx_there a at).position < 256
+    → set (failure_written o 1 a at) (long r) (lowered (rx_there a at).long (byte_at a (long r))) ≡ expired_area a r
 unfolding expired_area long_lowered
-expired_is a r at h e narrow =
+expired_is a r at o told h e narrow =
     let off = (failure_off {P = λ j. j ≡ long r} (λ j low high p. omega arith) (order a) 1 a at narrow).at (long r) refl in
     let frame = rx_frame_kept (Kept-failure (order a) 1 a at narrow) r h in
     let same : (rx_frame a r).long ≡ (rx_there a at).long = unfold rx_frame rx_at in rw e in
-    rw (failed a r, ← e, off, frame, same)
+    rw (told, failure_written_told, failed a r, ← e, off, frame, same)
 
 -- the byte of a timeout
 pub timeout_reported : (a : List ℕ) (r : ℕ) → report_number (Some (timed_out a r)) ≡ expired_report a r

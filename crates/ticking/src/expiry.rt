@@ -6,8 +6,8 @@ ghost use Rattle.ticking.specs.Tick.{timed_out, report_number, expired_area, rx_
 use answers::Timeout;
 use area::claims::write_failure;
 use area::frames::{home_node, rx_fields_place, rx_long};
-use area::header::node_type;
-use area::layout::{ORDER_BYTE, REQUESTS_START, long};
+use area::header::{self, node_type};
+use area::layout::{REQUESTS_START, long};
 use area::queue::request;
 use records::record::{NodeType, RxNumber};
 
@@ -33,7 +33,7 @@ pub fn expire(area: &mut [u8], r: RxNumber) -> Timeout
     ensures timeout { result ≡ timed_out area.old r.0 }
     ensures bytes { area.new ≡ expired_area area.old r.0 }
 {
-    let order = area[ORDER_BYTE];
+    let order = header::order(area);
     let at = rx_fields_place(area, r);
     let most = rx_long(area, at);
     let counter = long(r);

@@ -7,6 +7,7 @@ use borrow.Author.Rules.{rules}
 use lib.ListN.{length}
 use Rattle.std.proofs.Math.Bool.{or_comm}
 use Rattle.base.proofs.Ranges.{at_most_fewer, at_most_above}
+use Rattle.bits.specs.Order.{order_number}
 use Rattle.bits.specs.Signal.{signal_at}
 use Rattle.bits.specs.Word.{fitting, Bits}
 use Rattle.bits.specs.Payload.{copied, differs}
@@ -54,9 +55,9 @@ loop-k-preserved c =
     let fewer : n ≤ v.size - l.k = omega (arith, most.ensures.0, at_most_fewer (56 - (v.q + l.k) % 8) (v.size - l.k)) in
     let b : Bytes v.source.now = λ k. (c.type_inv.source k).fits in
     let piece = c.take_signal-piece in
-    let has : Bits v.order piece.result.bits v.source.now (v.p + l.k) piece.result.size =
+    let has : Bits (order_number v.order) piece.result.bits v.source.now (v.p + l.k) piece.result.size =
     rw (piece.ensures, c.low_first-bytes.ensures)
-    (piece_bits v.order v.source.now (v.p + l.k) n b (omega (arith, most.ensures.1))) in
+    (piece_bits (order_number v.order) v.source.now (v.p + l.k) n b (omega (arith, most.ensures.1))) in
     let whole : fitting (v.q + l.k) piece.result.size ≡ n =
     rw piece.ensures (fitting_is (v.q + l.k) n (omega (arith, most.ensures.1))) in
     let put = c.put_signal-changed in
@@ -64,9 +65,9 @@ loop-k-preserved c =
     let answer = rw whole at (put.ensures.answer v.source.now (v.p + l.k) has) in (
       omega arith,
       search rules,
-      kept ∙ rw (copied_parts v.order v.source.now v.p v.kept.now v.q l.k n, ← l.invariant.2),
+      kept ∙ rw (copied_parts (order_number v.order) v.source.now v.p v.kept.now v.q l.k n, ← l.invariant.2),
       rw (
-        differs_parts v.order v.source.now v.p v.kept.now v.q l.k n (omega arith),
+        differs_parts (order_number v.order) v.source.now v.p v.kept.now v.q l.k n (omega arith),
         ← l.invariant.2,
         ← l.invariant.3,
         ← answer,

@@ -8,5 +8,5 @@ returns g c =
     let v = c.args in
     let place = c.requires.1 in
     (rw place at c.walk.ensures)
-    ∙ walked_accepted _ v.area.now v.r.0 v.payload.now _ _ c.requires.0 c.restart.ensures
+    ∙ walked_accepted _ v.area.now v.r.0 v.payload.now _ _ _ c.order.ensures c.requires.0 c.restart.ensures
     (rw place at c.write_failure.ensures.bytes) (rw place at c.write_failure.ensures.narrow)

@@ -92,16 +92,16 @@ def numbers_said(texts):
         said['GATEWAY_REFUSED_' + upper(name)] = int(number)
     for name, number in re.findall(r'^refusal_number (\w+) = (\d+)$', texts['answers'], flags=re.M):
         said['GATEWAY_REFUSED_' + upper(name)] = int(number)
-    for name, number in re.findall(r'^(?:received|responded)_number \(?(?:responded\.)?(\w+)[^=]* = (\d+)$', texts['answers'], flags=re.M):
+    for name, number in re.findall(r'^(?:received|responded)_number \(Ok \(?(?:responded\.)?(\w+)[^=]* = (\d+)$', texts['answers'], flags=re.M):
         say('GATEWAY_' + upper(name), number)
     said['GATEWAY_AREA_SIZE'] = int(re.search(r'^shortest_area = (\d+)$', texts['shortest'], flags=re.M).group(1))
     said['GATEWAY_REPORT_SIZE'] = int(re.search(r'^rx_count a = at_most (\d+) \(low_at a rx_count_bytes\)$', texts['layout'], flags=re.M).group(1))
     said['GATEWAY_EXTENDED'] = int(re.search(r'^format_bit = (\d+)$', texts['ids'], flags=re.M).group(1))
-    for name, start in ('NOTHING', 'nothing_taken number'), ('FRAME', r'taken_struct \(taken\.Frame x\)'), ('REQUEST', r'taken_struct \(taken\.Request x\)'):
+    for name, start in ('NOTHING', 'nothing_taken number'), ('FRAME', r'taken_struct \(Ok \(Some \(taken\.Frame x\)\)\)'), ('REQUEST', r'taken_struct \(Ok \(Some \(taken\.Request x\)\)\)'):
         said['GATEWAY_' + name] = int(re.search(rf'^{start} =\s+record \{{\s+number = \w+;\s+kind = (\d+);', texts['fields'], flags=re.M).group(1))
     timeouts = re.search(r'^expired_report a r = pick \(.*\) (\d) (\d)$', texts['tick'], flags=re.M)
     said['GATEWAY_LONG_TIMEOUT'], said['GATEWAY_SHORT_TIMEOUT'] = int(timeouts.group(1)), int(timeouts.group(2))
-    for name, number in re.findall(r'^silence_number silence\.(\w+) = (\d+)$', texts['answers'], flags=re.M):
+    for name, number in re.findall(r'^silence_number \(Ok (\w+)\) = (\d+)$', texts['answers'], flags=re.M):
         say(f'GATEWAY_{upper(name)}_TIMEOUT', number)
     return said
 
@@ -168,13 +168,14 @@ PLANTED = [
     ('two fields exchanged in the source', 'structs', '    pub at: u16,\n    pub size: u16,\n', '    pub size: u16,\n    pub at: u16,\n'),
     ('another width of a field in the source', 'structs', '    pub id: u32,\n', '    pub id: u64,\n'),
     ('a field missing in the source', 'structs', '    pub waiting: u16,\n', ''),
-    ('a struct that is not laid out as C does', 'structs', '#[repr(C)]\n#[derive(Clone, Copy)]\npub struct GatewayPayload', '#[derive(Clone, Copy)]\npub struct GatewayPayload'),
+    ('a struct that is not laid out as C does', 'structs', '#[repr(C)]\n#[derive(Clone, Copy, Debug, PartialEq, Eq)]\npub struct GatewayPayload',
+     '#[derive(Clone, Copy, Debug, PartialEq, Eq)]\npub struct GatewayPayload'),
     ('another area size in the definitions', 'shortest', 'shortest_area = 32768', 'shortest_area = 32767'),
     ('another bit for the format in the definitions', 'ids', 'format_bit = 2147483648', 'format_bit = 1073741824'),
     ('another number of a kind in the definitions', 'fields', 'kind = 1;', 'kind = 2;'),
     ('another number of a request in the definitions', 'fields', 'kind = 2;', 'kind = 1;'),
-    ('an answer of two numbers in the definitions', 'answers', 'responded_number responded.TooShort = 2', 'responded_number responded.TooShort = 1'),
-    ('a timeout of two numbers in the definitions', 'answers', 'silence_number silence.Long = 2', 'silence_number silence.Long = 1'),
+    ('an answer of two numbers in the definitions', 'answers', 'responded_number (Ok responded.TooShort) = 2', 'responded_number (Ok responded.TooShort) = 1'),
+    ('a timeout of two numbers in the definitions', 'answers', 'silence_number (Ok Long) = 2', 'silence_number (Ok Long) = 1'),
     ('another number in the definitions', 'answers', 'refusal_number NotOpen = 11', 'refusal_number NotOpen = 12'),
 ]
 

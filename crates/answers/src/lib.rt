@@ -69,7 +69,7 @@ impl From<BadRecord> for RefusedPlan {
 
     fn from(bad: BadRecord) -> RefusedPlan {
         RefusedPlan {
-            why: Refusal::Plan(bad.reason),
+            why: Refusal::from(bad.reason),
             record_number: bad.record_number,
         }
     }
@@ -155,11 +155,4 @@ fn reason_number(why: Reason) -> usize
         Reason::Owner => 8,
         Reason::Indicator => 9,
     }
-}
-
-// The number of a refusal, as `Refusal::number`.
-pub fn refusal_number(why: Refusal) -> usize
-    ensures { result ≡ refusal_number why }
-{
-    why.number()
 }

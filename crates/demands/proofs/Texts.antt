@@ -1,6 +1,6 @@
 -- The second texts.
 use Rattle.records.proofs.IdLaws.{keys_in_order}
-use Rattle.encoding.proofs.Decode.{decodes_encoded}
+use Rattle.encoding.proofs.Decode.{decoded_eight, decodes_encoded}
 use Rattle.encoding.proofs.Encode.{encodes_good}
 use Rattle.encoding.proofs.Sizes.{sizes_agree}
 use Rattle.encoding.proofs.Broken.{broken_exactly}
@@ -21,6 +21,7 @@ use Rattle.demands.specs.Texts.{Texts}
 pub texts : Texts
 texts =
     record {
+      eight = decoded_eight;
       decodes = decodes_encoded;
       encodes = encodes_good;
       sizes = sizes_agree;

@@ -1,6 +1,6 @@
 -- What the model, the rules and the byte definitions all use, each said a second time in other words, and proved to be one.
 use Rattle.records.specs.Keys.{KeysInOrder}
-use Rattle.encoding.specs.Encode.{DecodesEncoded, EncodesGood, SizesAgree, BrokenExactly}
+use Rattle.encoding.specs.Encode.{DecodedEight, DecodesEncoded, EncodesGood, SizesAgree, BrokenExactly}
 use Rattle.encoding.specs.KindCases.{KindsHold}
 use Rattle.claims.specs.Statements.{GoodSaid}
 use Rattle.claims.specs.Examples.{Written}
@@ -14,6 +14,7 @@ use Rattle.restated.specs.Search.{SearchByLooks}
 
 pub record Texts : Type 0 where
   -- the records of a plan, by the encoder
+  pub eight : DecodedEight
   pub decodes : DecodesEncoded
   pub encodes : EncodesGood
   pub sizes : SizesAgree

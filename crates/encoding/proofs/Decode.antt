@@ -1,13 +1,14 @@
 -- What is encoded is decoded.
 use mathlib.Core.Path.{◌≡◌, refl, sym, ap, ◌∙◌}
 use mathlib.Core.List.{List, [], ◌∷◌, ◌++◌, append_assoc}
-use Prim.Native.Nat.{ℕ, ◌+◌, ◌-◌, ◌/◌, ◌%◌, ◌≤◌, ◌<◌}
+use Prim.Native.Nat.{ℕ, zero, suc, ◌+◌, ◌-◌, ◌/◌, ◌%◌, ◌≤◌, ◌<◌}
 use native.Mathlib.Omega.{arith}
 use native.Mathlib.Nat.{add-zero}
 use lib.ListN.{length, length-append}
 use lib.Seq.{get_or-append-add}
 use Rattle.base.specs.Pick.{pick}
 use Rattle.base.specs.Numbers.{byte_at, two_at, four_at}
+use Rattle.base.proofs.Picks.{both}
 use Rattle.records.specs.declared.record.Id.{Id}
 use Rattle.records.specs.declared.record.Id.TheVariants.{Standard, Extended}
 use Rattle.records.specs.declared.record.TxFrame.{TxFrame}
@@ -19,11 +20,11 @@ use Rattle.records.specs.declared.record.Record.{Record}
 use Rattle.records.specs.declared.record.Record.TheVariants.{Head, Node, Tx, Rx, Signal, Destination, Broken}
 use Rattle.records.specs.Ids.{behind_id}
 use Rattle.records.specs.Kinds.{form_of, length_of, eight_at, tx_at, rx_at, tx_record, rx_record, fields_at}
-use Rattle.records.specs.Records.{record_at, size_of, records_at, records, eight_bytes}
+use Rattle.records.specs.Records.{record_at, size_of, records_from, records_at, records, eight_bytes}
 use Rattle.records.proofs.Payloads.{eight_same}
-use Rattle.records.proofs.RecordLaws.{record_whole, records_end, records_step}
+use Rattle.records.proofs.RecordLaws.{by_record, record_whole, records_end, records_step}
 use Rattle.facts.specs.Good.{Each}
-use Rattle.encoding.specs.Encode.{tx_begin, rx_begin, bytes_of, encode, Whole, Eight, DecodesPlaced, DecodesEncoded}
+use Rattle.encoding.specs.Encode.{tx_begin, rx_begin, bytes_of, encode, Whole, Eight, DecodedEight, DecodesPlaced, DecodesEncoded}
 use Rattle.encoding.proofs.Sizes.{sizes_agree, some_bytes}
 
 -- a plan with some bytes at a place: what is read there is what they say
@@ -224,6 +225,19 @@ decodes_placed front rest (Destination body) w l = destination front rest body
 decodes_placed front rest (Broken fault) w l = absurd w
 
 -- ---- all records
+
+eight_placed : (plan : List ℕ) (at : ℕ) → Eight (record_at plan at)
+unfolding Eight tx_at tx_record rx_record eight_at
+eight_placed plan at = by_record Eight plan at (λ fault. tt) tt tt (λ id stands. refl) (λ id stands. tt) tt tt
+
+eight_from : (plan : List ℕ) (bound at : ℕ) → Each Eight (records_from bound plan at)
+unfolding records_from Each
+eight_from plan zero at = tt
+eight_from plan (suc bound) at = both (Each Eight) _ _ _ tt (eight_placed plan at, eight_from plan bound _)
+
+pub decoded_eight : DecodedEight
+unfolding records records_at
+decoded_eight plan = eight_from plan _ 0
 
 from : (rs : List Record) (front : List ℕ) → Each Whole rs → Each Eight rs → records_at (front ++ encode rs) (length front) ≡ rs
 unfolding encode Each

@@ -58,6 +58,10 @@ Whole r = on_broken (Unit {0}) (λ fault. ⊥) r
 unfoldable pub Eight : Record → Type 0
 Eight r = on_tx (Unit {0}) (λ x. length x.payload ≡ 8) r
 
+-- so it is with each record that a plan's bytes are read as
+abbrev pub DecodedEight : Type 0
+DecodedEight = (plan : List ℕ) → Each Eight (records plan)
+
 -- what is encoded is decoded, at each place and as a plan
 abbrev pub DecodesPlaced : Type 0
 DecodesPlaced = (front rest : List ℕ) (r : Record) → Whole r → Eight r → record_at (front ++ (bytes_of r ++ rest)) (length front) ≡ r

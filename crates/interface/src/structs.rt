@@ -16,7 +16,7 @@ use plan::verdict::PlanCounts;
 use records::record::{FORMAT_BIT, Id, TxNumber};
 
 #[repr(C)]
-#[derive(Clone, Copy)]
+#[derive(Clone, Copy, Debug, PartialEq, Eq)]
 pub struct GatewayOpened {
     pub number: u16,
     pub record: u16,
@@ -26,14 +26,14 @@ pub struct GatewayOpened {
 }
 
 #[repr(C)]
-#[derive(Clone, Copy)]
+#[derive(Clone, Copy, Debug, PartialEq, Eq)]
 pub struct GatewayReceived {
     pub number: u16,
     pub place: u16,
 }
 
 #[repr(C)]
-#[derive(Clone, Copy)]
+#[derive(Clone, Copy, Debug, PartialEq, Eq)]
 pub struct GatewayTaken {
     pub number: u16,
     pub kind: u8,
@@ -47,14 +47,14 @@ pub struct GatewayTaken {
 }
 
 #[repr(C)]
-#[derive(Clone, Copy)]
+#[derive(Clone, Copy, Debug, PartialEq, Eq)]
 pub struct GatewayPayload {
     pub at: u16,
     pub size: u16,
 }
 
 #[repr(C)]
-#[derive(Clone, Copy)]
+#[derive(Clone, Copy, Debug, PartialEq, Eq)]
 pub struct GatewayFullness {
     pub number: u16,
     pub bits: u16,
@@ -64,7 +64,7 @@ pub struct GatewayFullness {
 fn refusal_number(why: Refusal) -> u16
     ensures { result ≡ refusal_number why }
 {
-    (answers::refusal_number(why) % 65536) as u16
+    (why.number() % 65536) as u16
 }
 
 // The lowest 16 bits.

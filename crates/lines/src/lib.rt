@@ -14,7 +14,7 @@ use std::fmt;
 use text::{Hex, Numbers};
 
 // A plan that is opened, with its counts.
-#[derive(Clone, Copy)]
+#[derive(Clone, Copy, Debug, PartialEq, Eq)]
 struct OpenLine(PlanCounts);
 
 impl fmt::Display for OpenLine {
@@ -27,7 +27,7 @@ impl fmt::Display for OpenLine {
 }
 
 // A plan that is refused, with the number of its record.
-#[derive(Clone, Copy)]
+#[derive(Clone, Copy, Debug, PartialEq, Eq)]
 struct RefusedLine(RefusedPlan);
 
 impl fmt::Display for RefusedLine {
@@ -40,7 +40,7 @@ impl fmt::Display for RefusedLine {
 }
 
 // The first line: what the opening answered.
-#[derive(Clone, Copy)]
+#[derive(Clone, Copy, Debug, PartialEq, Eq)]
 pub struct PlanLine(pub Result<PlanCounts, RefusedPlan>);
 
 impl fmt::Display for PlanLine {
@@ -55,7 +55,7 @@ impl fmt::Display for PlanLine {
 }
 
 // What a reception answered.
-#[derive(Clone, Copy)]
+#[derive(Clone, Copy, Debug, PartialEq, Eq)]
 pub struct ReceptionLine(pub Result<Received, Refusal>);
 
 impl fmt::Display for ReceptionLine {
@@ -72,7 +72,7 @@ impl fmt::Display for ReceptionLine {
 }
 
 // What a response on LIN answered, and what "no response" did.
-#[derive(Clone, Copy)]
+#[derive(Clone, Copy, Debug, PartialEq, Eq)]
 pub struct ResponseLine(pub Result<Responded, Refusal>);
 
 impl fmt::Display for ResponseLine {
@@ -88,7 +88,7 @@ impl fmt::Display for ResponseLine {
     }
 }
 
-#[derive(Clone, Copy)]
+#[derive(Clone, Copy, Debug, PartialEq, Eq)]
 pub struct SilenceLine(pub Result<Timeout, Refusal>);
 
 impl fmt::Display for SilenceLine {
@@ -104,7 +104,7 @@ impl fmt::Display for SilenceLine {
 }
 
 // What a tick answered, with the report bytes, one for each Rx frame.
-#[derive(Clone, Copy)]
+#[derive(Clone, Copy, Debug, PartialEq, Eq)]
 pub struct TickLine<'a> {
     pub answer: Result<(), Refusal>,
     pub report: &'a [u8],
@@ -122,7 +122,7 @@ impl fmt::Display for TickLine<'_> {
 }
 
 // A space and an ID, with `e` before one of 29 bits.
-#[derive(Clone, Copy)]
+#[derive(Clone, Copy, Debug, PartialEq, Eq)]
 struct SpacedId(Id);
 
 impl fmt::Display for SpacedId {
@@ -137,7 +137,7 @@ impl fmt::Display for SpacedId {
 }
 
 // A payload in hex, `-` for size 0.
-#[derive(Clone, Copy)]
+#[derive(Clone, Copy, Debug, PartialEq, Eq)]
 struct Payload<'a> {
     size: usize,
     bytes: &'a [u8],
@@ -155,7 +155,7 @@ impl fmt::Display for Payload<'_> {
 }
 
 // A frame that is taken, with its payload.
-#[derive(Clone, Copy)]
+#[derive(Clone, Copy, Debug, PartialEq, Eq)]
 struct FrameLine<'a> {
     frame: TakenFrame,
     payload: &'a [u8],
@@ -182,7 +182,7 @@ impl fmt::Display for FrameLine<'_> {
 }
 
 // A request that is taken.
-#[derive(Clone, Copy)]
+#[derive(Clone, Copy, Debug, PartialEq, Eq)]
 struct RequestLine(TakenRequest);
 
 impl fmt::Display for RequestLine {
@@ -201,7 +201,7 @@ impl fmt::Display for RequestLine {
 }
 
 // What a take answered, with the payload that it handed back.
-#[derive(Clone, Copy)]
+#[derive(Clone, Copy, Debug, PartialEq, Eq)]
 pub struct TakeLine<'a> {
     pub answer: Result<Option<Taken>, Refusal>,
     pub payload: &'a [u8],

@@ -7,4 +7,4 @@ use Rattle.interface.proofs.structs.refusal_number.Goals as goal
 
 pub returns : goal.returns
 returns c = let small : refusal_number c.args.why ≤ 16 = (numbered c.args.why).high in
-    rw c.refusal_number.ensures (omega arith)
+    rw c.number.ensures (omega arith)

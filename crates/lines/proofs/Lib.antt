@@ -1,2 +1,1 @@
 pub mod LineCases
-mod LineLaws

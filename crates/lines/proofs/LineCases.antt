@@ -23,7 +23,7 @@ use Rattle.answers.specs.declared.Framing.TheVariants.{Can, Lin}
 use Rattle.answers.specs.declared.Taken.TheVariants as taken
 use Rattle.answers.specs.Answers.{refusal_number, received_number, responded_number, silence_number}
 use Rattle.events.specs.declared.Event.TheVariants.{Reception, Tick, Take, Response, NoResponse, Bad}
-use Rattle.text.specs.Text.{ascii, glyph, decimal_in, decimal, hex_byte, spaced}
+use Rattle.text.specs.Text.{ascii, glyph, decimal_in, decimal, hex_byte, each, spaced}
 use Rattle.text.proofs.TextLaws.{decimal_one, decimal_more}
 use Rattle.lines.specs.Lines.{word_line, numbers_line, plan_line, rx_line, response_line, silence_line, tick_line, payload_text, spaced_id, frame_line, request_line}
 use Rattle.lines.specs.Lines.{take_line, bad_line}
@@ -84,7 +84,7 @@ pub listing_lines :
     ∷ ascii "rx 1 1\n"
     ∷ ascii "rx 2\n"
     ∷ []
-unfolding plan_line rx_line tick_line take_line frame_line payload_text word_line numbers_line received_number spaced spaced_id decimal decimal_in hex_byte glyph
+unfolding plan_line rx_line tick_line take_line frame_line payload_text word_line numbers_line received_number each spaced spaced_id decimal decimal_in hex_byte glyph
     pick
 listing_lines = refl
 
@@ -113,7 +113,7 @@ pub other_lines :
     ∷ ascii "take 255 2047 0 - 3\n"
     ∷ ascii "input bad\n"
     ∷ []
-unfolding plan_line rx_line tick_line take_line frame_line payload_text bad_line word_line numbers_line refusal_number number_of received_number spaced
+unfolding plan_line rx_line tick_line take_line frame_line payload_text bad_line word_line numbers_line refusal_number number_of received_number each spaced
     spaced_id decimal decimal_in glyph pick
 other_lines = refl
 
@@ -141,7 +141,7 @@ pub lin_lines :
     ∷ ascii "take request 7 59 8 2\n"
     ∷ ascii "take 1 2 1 12 0\n"
     ∷ []
-unfolding rx_line response_line silence_line take_line frame_line request_line payload_text numbers_line refusal_number responded_number silence_number spaced
+unfolding rx_line response_line silence_line take_line frame_line request_line payload_text numbers_line refusal_number responded_number silence_number each spaced
     spaced_id decimal decimal_in hex_byte glyph pick
 lin_lines = refl
 
@@ -167,7 +167,7 @@ pub extended_lines :
     ∷ ascii "take 0 e0 0 - 0\n"
     ∷ ascii "take 0 e536870911 0 - 0\n"
     ∷ []
-unfolding take_line frame_line payload_text spaced spaced_id decimal_in hex_byte glyph pick
+unfolding take_line frame_line payload_text each spaced spaced_id decimal_in hex_byte glyph pick
 extended_lines = rw (shown 0 (omega arith), shown 8 (omega arith), shown 32 (omega arith), shown 167248128 (omega arith), shown 536870911 (omega arith))
 
 -- the listing's input: the plan's length, the plan, the events

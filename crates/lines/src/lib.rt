@@ -1,236 +1,209 @@
-// The bench program's lines: each shows what a call answered, and ends in one line feed.
+// The bench program's lines: each function writes its line at the start of the lent buffer, and answers how long the line is.
 #![tactic(auto)]
 
-ghost use Rattle.std.specs.Prelude.{◌≡◌, Some, Ok, Err};
-ghost use Rattle.lines.specs.Lines.{plan_line, rx_line, response_line, silence_line, tick_line};
+ghost use Rattle.std.specs.Prelude.{[], ◌∷◌, ◌+◌, ◌*◌, ◌≤◌, length};
+ghost use Rattle.text.specs.Text.{Put, LineIs};
+ghost use Rattle.lines.specs.Lines.{word_line, numbers_line, plan_line, rx_line, response_line, silence_line, tick_line};
 ghost use Rattle.lines.specs.Lines.{payload_text, spaced_id, frame_line, request_line, take_line, bad_line};
 
 use answers::{
     Received, Refusal, RefusedPlan, Responded, Taken, TakenFrame, TakenRequest, Timeout,
 };
 use plan::verdict::PlanCounts;
-use records::record::{Id, RxNumber, TxNumber};
-use std::fmt;
-use text::{Hex, Numbers};
+use records::record::Id;
 
-// A plan that is opened, with its counts.
-#[derive(Clone, Copy, Debug, PartialEq, Eq)]
-struct OpenLine(PlanCounts);
+// A word alone.
+fn line_of_word(word: &[u8], line: &mut [u8]) -> usize
+    requires { (2048 ≤ length line.old) × (length word.now ≤ 100) }
+    ensures { LineIs (word_line word.now) line.old line.new result }
+{
+    let end = text::put_word(line, 0, word);
+    text::put_byte(line, end, b'\n')
+}
 
-impl fmt::Display for OpenLine {
-    ghost output = { λ line. Some (plan_line (Ok line.0)) };
+// A word and one, two, three numbers.
+fn line_of_one(word: &[u8], n: usize, line: &mut [u8]) -> usize
+    requires { (2048 ≤ length line.old) × (length word.now ≤ 100) }
+    ensures { LineIs (numbers_line word.now (n ∷ [])) line.old line.new result }
+{
+    let named = text::put_word(line, 0, word);
+    let end = text::put_number(line, named, n);
+    text::put_byte(line, end, b'\n')
+}
 
-    fn fmt<W: fmt::Write>(&self, f: &mut fmt::Formatter<W>) -> fmt::Result {
-        let PlanCounts { nodes, tx, rx } = self.0;
-        writeln!(f, "plan ok {nodes} {tx} {rx}")
+fn line_of_two(word: &[u8], n: usize, m: usize, line: &mut [u8]) -> usize
+    requires { (2048 ≤ length line.old) × (length word.now ≤ 100) }
+    ensures { LineIs (numbers_line word.now (n ∷ m ∷ [])) line.old line.new result }
+{
+    let named = text::put_word(line, 0, word);
+    let first = text::put_number(line, named, n);
+    let end = text::put_number(line, first, m);
+    text::put_byte(line, end, b'\n')
+}
+
+fn line_of_three(word: &[u8], n: usize, m: usize, k: usize, line: &mut [u8]) -> usize
+    requires { (2048 ≤ length line.old) × (length word.now ≤ 100) }
+    ensures { LineIs (numbers_line word.now (n ∷ m ∷ k ∷ [])) line.old line.new result }
+{
+    let named = text::put_word(line, 0, word);
+    let end = text::put_three(line, named, n, m, k);
+    text::put_byte(line, end, b'\n')
+}
+
+// A word and bytes in decimal.
+fn line_of_bytes(word: &[u8], bytes: &[u8], line: &mut [u8]) -> usize
+    requires { (2048 ≤ length line.old) × (length word.now ≤ 100) × (length bytes.now ≤ 256) }
+    ensures { LineIs (numbers_line word.now bytes.now) line.old line.new result }
+{
+    let named = text::put_word(line, 0, word);
+    let end = text::put_numbers(line, named, bytes);
+    text::put_byte(line, end, b'\n')
+}
+
+// A payload in hex, `-` for size 0.
+fn put_payload(line: &mut [u8], at: usize, size: usize, payload: &[u8]) -> usize
+    requires { at + 2 * length payload.now + 1 ≤ length line.old }
+    ensures put { Put line.old at (payload_text size payload.now) line.new result }
+    ensures upper_bound { result ≤ at + 2 * length payload.now + 1 }
+{
+    if size == 0 {
+        return text::put_byte(line, at, b'-');
+    }
+    text::put_hex(line, at, payload)
+}
+
+// A space and an ID, with `e` before one of 29 bits.
+fn put_id(line: &mut [u8], at: usize, id: Id) -> usize
+    requires { at + 22 ≤ length line.old }
+    ensures put { Put line.old at (spaced_id id) line.new result }
+    ensures upper_bound { result ≤ at + 22 }
+{
+    match id {
+        Id::Standard(n) => text::put_number(line, at, n),
+        Id::Extended(n) => {
+            let marked = text::put_word(line, at, b" e");
+            text::put_decimal(line, marked, n)
+        }
     }
 }
 
-// A plan that is refused, with the number of its record.
-#[derive(Clone, Copy, Debug, PartialEq, Eq)]
-struct RefusedLine(RefusedPlan);
+// A frame that is taken.
+fn line_of_frame(frame: TakenFrame, payload: &[u8], line: &mut [u8]) -> usize
+    requires { (2048 ≤ length line.old) × (length payload.now ≤ 256) }
+    ensures { LineIs (frame_line frame payload.now) line.old line.new result }
+{
+    let named = text::put_word(line, 0, b"take");
+    let numbered = text::put_number(line, named, frame.tx.0);
+    let id = frame.id;
+    let identified = put_id(line, numbered, id);
+    let sized = text::put_number(line, identified, frame.size);
+    let spaced = text::put_byte(line, sized, b' ');
+    let shown = put_payload(line, spaced, frame.size, payload);
+    let end = text::put_number(line, shown, frame.waiting);
+    text::put_byte(line, end, b'\n')
+}
 
-impl fmt::Display for RefusedLine {
-    ghost output = { λ line. Some (plan_line (Err line.0)) };
-
-    fn fmt<W: fmt::Write>(&self, f: &mut fmt::Formatter<W>) -> fmt::Result {
-        let RefusedPlan { why, record_number } = self.0;
-        writeln!(f, "plan refused {} {record_number}", why.number())
-    }
+// A request that is taken.
+fn line_of_request(request: TakenRequest, line: &mut [u8]) -> usize
+    requires { 2048 ≤ length line.old }
+    ensures { LineIs (request_line request) line.old line.new result }
+{
+    let named = text::put_word(line, 0, b"take request");
+    let numbered = text::put_number(line, named, request.rx.0);
+    let id = request.id;
+    let identified = put_id(line, numbered, id);
+    let sized = text::put_number(line, identified, request.size);
+    let end = text::put_number(line, sized, request.waiting);
+    text::put_byte(line, end, b'\n')
 }
 
 // The first line: what the opening answered.
-#[derive(Clone, Copy, Debug, PartialEq, Eq)]
-pub struct PlanLine(pub Result<PlanCounts, RefusedPlan>);
-
-impl fmt::Display for PlanLine {
-    ghost output = { λ line. Some (plan_line line.0) };
-
-    fn fmt<W: fmt::Write>(&self, f: &mut fmt::Formatter<W>) -> fmt::Result {
-        match self.0 {
-            Ok(counts) => write!(f, "{}", OpenLine(counts)),
-            Err(refused) => write!(f, "{}", RefusedLine(refused)),
-        }
+#[tactic(auto, unfolding(crate::specs::Lines::plan_line))]
+pub fn plan_line(answer: Result<PlanCounts, RefusedPlan>, line: &mut [u8]) -> usize
+    requires { 2048 ≤ length line.old }
+    ensures { LineIs (plan_line answer) line.old line.new result }
+{
+    match answer {
+        Ok(counts) => line_of_three(b"plan ok", counts.nodes, counts.tx, counts.rx, line),
+        Err(refused) => line_of_two(
+            b"plan refused",
+            refused.why.number(),
+            refused.record_number,
+            line,
+        ),
     }
 }
 
 // What a reception answered.
-#[derive(Clone, Copy, Debug, PartialEq, Eq)]
-pub struct ReceptionLine(pub Result<Received, Refusal>);
-
-impl fmt::Display for ReceptionLine {
-    ghost output = { λ line. Some (rx_line line.0) };
-
-    fn fmt<W: fmt::Write>(&self, f: &mut fmt::Formatter<W>) -> fmt::Result {
-        match self.0 {
-            Ok(Received::Accepted) => writeln!(f, "rx 0"),
-            Ok(Received::NoRow { place }) => writeln!(f, "rx 1 {place}"),
-            Ok(Received::TooShort) => writeln!(f, "rx 2"),
-            Err(why) => writeln!(f, "rx refused {}", why.number()),
-        }
+#[tactic(auto, unfolding(crate::specs::Lines::rx_line, answers::specs::Answers::received_number))]
+pub fn rx_line(answer: Result<Received, Refusal>, line: &mut [u8]) -> usize
+    requires { 2048 ≤ length line.old }
+    ensures { LineIs (rx_line answer) line.old line.new result }
+{
+    match answer {
+        Ok(Received::Accepted) => line_of_one(b"rx", 0, line),
+        Ok(Received::NoRow { place }) => line_of_two(b"rx", 1, place, line),
+        Ok(Received::TooShort) => line_of_one(b"rx", 2, line),
+        Err(why) => line_of_one(b"rx refused", why.number(), line),
     }
 }
 
 // What a response on LIN answered, and what "no response" did.
-#[derive(Clone, Copy, Debug, PartialEq, Eq)]
-pub struct ResponseLine(pub Result<Responded, Refusal>);
-
-impl fmt::Display for ResponseLine {
-    ghost output = { λ line. Some (response_line line.0) };
-
-    fn fmt<W: fmt::Write>(&self, f: &mut fmt::Formatter<W>) -> fmt::Result {
-        match self.0 {
-            Ok(Responded::Accepted) => writeln!(f, "rx 0"),
-            Ok(Responded::TooShort) => writeln!(f, "rx 2"),
-            Ok(Responded::WrongSum) => writeln!(f, "rx 3"),
-            Err(refusal) => writeln!(f, "rx refused {}", refusal.number()),
-        }
+#[tactic(auto, unfolding(crate::specs::Lines::response_line, answers::specs::Answers::responded_number))]
+pub fn response_line(answer: Result<Responded, Refusal>, line: &mut [u8]) -> usize
+    requires { 2048 ≤ length line.old }
+    ensures { LineIs (response_line answer) line.old line.new result }
+{
+    match answer {
+        Ok(Responded::Accepted) => line_of_one(b"rx", 0, line),
+        Ok(Responded::TooShort) => line_of_one(b"rx", 2, line),
+        Ok(Responded::WrongSum) => line_of_one(b"rx", 3, line),
+        Err(refusal) => line_of_one(b"rx refused", refusal.number(), line),
     }
 }
 
-#[derive(Clone, Copy, Debug, PartialEq, Eq)]
-pub struct SilenceLine(pub Result<Timeout, Refusal>);
-
-impl fmt::Display for SilenceLine {
-    ghost output = { λ line. Some (silence_line line.0) };
-
-    fn fmt<W: fmt::Write>(&self, f: &mut fmt::Formatter<W>) -> fmt::Result {
-        match self.0 {
-            Ok(Timeout::Short) => writeln!(f, "silent 1"),
-            Ok(Timeout::Long) => writeln!(f, "silent 2"),
-            Err(why) => writeln!(f, "silent refused {}", why.number()),
-        }
+#[tactic(auto, unfolding(crate::specs::Lines::silence_line, answers::specs::Answers::silence_number))]
+pub fn silence_line(answer: Result<Timeout, Refusal>, line: &mut [u8]) -> usize
+    requires { 2048 ≤ length line.old }
+    ensures { LineIs (silence_line answer) line.old line.new result }
+{
+    match answer {
+        Ok(Timeout::Short) => line_of_one(b"silent", 1, line),
+        Ok(Timeout::Long) => line_of_one(b"silent", 2, line),
+        Err(why) => line_of_one(b"silent refused", why.number(), line),
     }
 }
 
 // What a tick answered, with the report bytes, one for each Rx frame.
-#[derive(Clone, Copy, Debug, PartialEq, Eq)]
-pub struct TickLine<'a> {
-    pub answer: Result<(), Refusal>,
-    pub report: &'a [u8],
-}
-
-impl fmt::Display for TickLine<'_> {
-    ghost output = { λ line. Some (tick_line line.answer line.report.now) };
-
-    fn fmt<W: fmt::Write>(&self, f: &mut fmt::Formatter<W>) -> fmt::Result {
-        match self.answer {
-            Ok(()) => writeln!(f, "tick{}", Numbers(self.report)),
-            Err(why) => writeln!(f, "tick refused {}", why.number()),
-        }
-    }
-}
-
-// A space and an ID, with `e` before one of 29 bits.
-#[derive(Clone, Copy, Debug, PartialEq, Eq)]
-struct SpacedId(Id);
-
-impl fmt::Display for SpacedId {
-    ghost output = { λ id. Some (spaced_id id.0) };
-
-    fn fmt<W: fmt::Write>(&self, f: &mut fmt::Formatter<W>) -> fmt::Result {
-        match self.0 {
-            Id::Standard(n) => write!(f, " {n}"),
-            Id::Extended(n) => write!(f, " e{n}"),
-        }
-    }
-}
-
-// A payload in hex, `-` for size 0.
-#[derive(Clone, Copy, Debug, PartialEq, Eq)]
-struct Payload<'a> {
-    size: usize,
-    bytes: &'a [u8],
-}
-
-impl fmt::Display for Payload<'_> {
-    ghost output = { λ payload. Some (payload_text payload.size payload.bytes.now) };
-
-    fn fmt<W: fmt::Write>(&self, f: &mut fmt::Formatter<W>) -> fmt::Result {
-        if self.size == 0 {
-            return write!(f, "-");
-        }
-        write!(f, "{}", Hex(self.bytes))
-    }
-}
-
-// A frame that is taken, with its payload.
-#[derive(Clone, Copy, Debug, PartialEq, Eq)]
-struct FrameLine<'a> {
-    frame: TakenFrame,
-    payload: &'a [u8],
-}
-
-impl fmt::Display for FrameLine<'_> {
-    ghost output = { λ line. Some (frame_line line.frame line.payload.now) };
-
-    fn fmt<W: fmt::Write>(&self, f: &mut fmt::Formatter<W>) -> fmt::Result {
-        let TakenFrame {
-            tx: TxNumber(tx),
-            id,
-            size,
-            waiting,
-            ..
-        } = self.frame;
-        let id = SpacedId(id);
-        let payload = Payload {
-            size,
-            bytes: self.payload,
-        };
-        writeln!(f, "take {tx}{id} {size} {payload} {waiting}")
-    }
-}
-
-// A request that is taken.
-#[derive(Clone, Copy, Debug, PartialEq, Eq)]
-struct RequestLine(TakenRequest);
-
-impl fmt::Display for RequestLine {
-    ghost output = { λ line. Some (request_line line.0) };
-
-    fn fmt<W: fmt::Write>(&self, f: &mut fmt::Formatter<W>) -> fmt::Result {
-        let TakenRequest {
-            rx: RxNumber(rx),
-            id,
-            size,
-            waiting,
-            ..
-        } = self.0;
-        writeln!(f, "take request {rx}{} {size} {waiting}", SpacedId(id))
+#[tactic(auto, unfolding(crate::specs::Lines::tick_line))]
+pub fn tick_line(answer: Result<(), Refusal>, report: &[u8], line: &mut [u8]) -> usize
+    requires { (2048 ≤ length line.old) × (length report.now ≤ 256) }
+    ensures { LineIs (tick_line answer report.now) line.old line.new result }
+{
+    match answer {
+        Ok(()) => line_of_bytes(b"tick", report, line),
+        Err(why) => line_of_one(b"tick refused", why.number(), line),
     }
 }
 
 // What a take answered, with the payload that it handed back.
-#[derive(Clone, Copy, Debug, PartialEq, Eq)]
-pub struct TakeLine<'a> {
-    pub answer: Result<Option<Taken>, Refusal>,
-    pub payload: &'a [u8],
-}
-
-impl fmt::Display for TakeLine<'_> {
-    ghost output = { λ line. Some (take_line line.answer line.payload.now) };
-
-    fn fmt<W: fmt::Write>(&self, f: &mut fmt::Formatter<W>) -> fmt::Result {
-        match self.answer {
-            Ok(None) => writeln!(f, "take none"),
-            Ok(Some(Taken::Frame(frame))) => {
-                let payload = self.payload;
-                write!(f, "{}", FrameLine { frame, payload })
-            }
-            Ok(Some(Taken::Request(request))) => write!(f, "{}", RequestLine(request)),
-            Err(why) => writeln!(f, "take refused {}", why.number()),
-        }
+#[tactic(auto, unfolding(crate::specs::Lines::take_line))]
+pub fn take_line(answer: Result<Option<Taken>, Refusal>, payload: &[u8], line: &mut [u8]) -> usize
+    requires { (2048 ≤ length line.old) × (length payload.now ≤ 256) }
+    ensures { LineIs (take_line answer payload.now) line.old line.new result }
+{
+    match answer {
+        Ok(None) => line_of_word(b"take none", line),
+        Ok(Some(Taken::Frame(frame))) => line_of_frame(frame, payload, line),
+        Ok(Some(Taken::Request(request))) => line_of_request(request, line),
+        Err(why) => line_of_one(b"take refused", why.number(), line),
     }
 }
 
 // Input that is bad.
-#[derive(Clone, Copy, Debug, PartialEq, Eq)]
-pub struct BadLine;
-
-impl fmt::Display for BadLine {
-    ghost output = { λ line. Some bad_line };
-
-    fn fmt<W: fmt::Write>(&self, f: &mut fmt::Formatter<W>) -> fmt::Result {
-        writeln!(f, "input bad")
-    }
+pub fn bad_line(line: &mut [u8]) -> usize
+    requires { 2048 ≤ length line.old }
+    ensures { LineIs bad_line line.old line.new result }
+{
+    line_of_word(b"input bad", line)
 }

@@ -13,7 +13,7 @@ use Rattle.plan.specs.Check.{good_with, check_plan}
 use Rattle.facts.specs.PlanCases.{listing}
 use Rattle.facts.proofs.PlanCases.{plan_cases_hold}
 use Rattle.answers.specs.Answers.{refusal_number, received_number}
-use Rattle.text.specs.Text.{glyph, decimal_in, decimal, hex_byte, spaced}
+use Rattle.text.specs.Text.{glyph, decimal_in, decimal, hex_byte, each, spaced}
 use Rattle.events.specs.Events.{front_of, event_length, whole_event, event_at, event_size, payload_at}
 use Rattle.lines.specs.Lines.{word_line, numbers_line, plan_line, rx_line, tick_line, payload_text, spaced_id, frame_line, take_line, bad_line}
 use Rattle.model.specs.Opening.{mapped, begun, open_answer}
@@ -37,7 +37,7 @@ unfolding pick digit set_digit digit_of bit_at set_bit copied differs lowered pl
     order_in mapped begun open_answer is_in joined scheduled handled tx_lowered tx_turn tx_turns failed_by failed expired timeout_of rx_expiry rx_lowered rx_turn
     rx_turns expiry_report report_of reported ticked_state tick_answer ticked tick_report handed framing_of entry_answer oldest_answer oldest_payload
     without_oldest taken_answer taken_payload taken find smaller sent_if put_by put restarted accepted found_answer found_state received_answer received
-    answer_of next_of answer_from next_from open_next the_model reply_of world_after replies refusal_number received_number glyph decimal_in decimal hex_byte
+    answer_of next_of answer_from next_from open_next the_model reply_of world_after replies refusal_number received_number glyph decimal_in decimal hex_byte each
     spaced front_of event_length whole_event event_at event_size payload_at word_line numbers_line plan_line rx_line tick_line payload_text spaced_id frame_line take_line
     bad_line asked_by asked_in asked_from answer_line line_of lines_of asked_of text_of front_text model_output
 listing_holds = rw is_good refl

@@ -14,18 +14,13 @@ lent rx h =
     ap (λ (n : ℕ). take rx (replicate {A = ℕ} n 0)) whole ∙ ap (λ (l : List ℕ). take rx l) (sym (replicate-append-replicate {A = ℕ} rx (256 - rx) 0))
     ∙ take_at (fresh rx) (fresh (256 - rx)) rx (length-replicate {A = ℕ} rx 0)
 
-pub returns-clause-text : goal.returns-clause-text
+pub returns : goal.returns
 unfolding ticked_text
-returns-clause-text g c = let call = c.tick-answer in
+returns c = let call = c.tick-answer in
     let rx = c.args.rx in
-    let zeros = lent rx c.requires in
+    let zeros = lent rx c.requires.0 in
     let size : length call.new.report ≡ rx = call.auto.report ∙ ap (λ (l : List ℕ). length l) zeros ∙ length-replicate {A = ℕ} rx 0 in
     let shown = take_at call.new.report (drop rx (fresh 256)) rx size in
     let answer = rw zeros at call.ensures.answer in
     let report = rw zeros at call.ensures.report in
-    rw (← answer, ← report) (rw shown at c.write.ensures.bytes)
-
-pub returns-clause-bytes : goal.returns-clause-bytes
-returns-clause-bytes g c =
-    let answer = rw (lent c.args.rx c.requires) at c.tick-answer.ensures.answer in
-    rw answer at c.tick-answer.ensures.bytes
+    record { text = rw (← answer, ← report) (rw shown at c.tick_line.ensures); bytes = rw answer at call.ensures.bytes }

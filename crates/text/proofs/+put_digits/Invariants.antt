@@ -1,0 +1,5 @@
+-- A tenth of the number is smaller.
+use Rattle.text.proofs.+put_digits.Given as goal
+
+abbrev pub decreases-put_digits : goal.decreases-put_digits
+decreases-put_digits l = l.n

@@ -64,7 +64,7 @@ module _ (o n : ℕ) where
 -- ---- the order is that which the head's byte tells
 
 module _ (byte : ℕ) where
-  done_told : (e : RxEvent) (a : List ℕ) (c : Claim) → done (order_told byte) e a c ≡ done byte e a c
+  pub done_told : (e : RxEvent) (a : List ℕ) (c : Claim) → done (order_told byte) e a c ≡ done byte e a c
   unfolding done done_by sent_by
   done_told e a c = go e c.from
     where

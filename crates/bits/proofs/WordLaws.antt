@@ -1,6 +1,7 @@
 -- Laws of eight bytes as a number. Bit t of the bytes is one digit of their number, in either order; so is each bit that is taken from them or laid
 -- into them.
 use mathlib.Core.Path.{◌≡◌, refl, sym, ap, ◌∙◌}
+use mathlib.Core.Logic.{◌≢◌}
 use mathlib.Core.List.{List, ◌∷◌, ◌++◌}
 use Prim.Native.Nat.{ℕ, zero, suc, ◌+◌, ◌-◌, ◌*◌, ◌/◌, ◌%◌, ◌^◌, ◌≤◌, ◌<◌}
 use native.Mathlib.Nat.{add-zero, zero-add, suc-add, add-mul, mul_assoc, mul-mod_left, div-eq_of_lt}
@@ -187,22 +188,34 @@ pub swapped : (number : ℕ) → swap_bytes w64 number ≡ reversed 8 number
 unfolding reversed
 swapped number = omega arith
 
-pub eight_low : (bytes eight : List ℕ) (at : ℕ) → eight ≡ take 8 (drop at bytes) → from_le_bytes w64 eight ≡ low_first 8 bytes at
+-- eight bytes as a sum
+pub eight_sum :
+    (b : List ℕ) (at : ℕ) → low_first 8 b at
+    ≡ ((((((get_or b (at + 7) 0 * 256 + get_or b (at + 6) 0) * 256 + get_or b (at + 5) 0) * 256 + get_or b (at + 4) 0) * 256 + get_or b (at + 3) 0) * 256
+    + get_or b (at + 2) 0) * 256 + get_or b (at + 1) 0) * 256 + get_or b at 0
 unfolding low_first
-eight_low bytes eight at e =
-    let each : (i : ℕ) → i < 8 → get_or eight i 0 ≡ get_or bytes (at + i) 0 = λ i h. rw e (get_or-take 8 (drop at bytes) i 0 h ∙ get_or-drop at bytes i 0) in
-    let one : at + 0 ≡ at = omega arith in
+eight_sum b at =
     let two : at + 1 + 1 ≡ at + 2 = omega arith in
     let three : at + 2 + 1 ≡ at + 3 = omega arith in
     let four : at + 3 + 1 ≡ at + 4 = omega arith in
     let five : at + 4 + 1 ≡ at + 5 = omega arith in
     let six : at + 5 + 1 ≡ at + 6 = omega arith in
     let seven : at + 6 + 1 ≡ at + 7 = omega arith in
-    let first = rw one at (each 0 (omega arith)) in
-    rw (two, three, four, five, six, seven)
-    (omega (
-      arith,
-      first,
+    rw (two, three, four, five, six, seven) (omega arith)
+
+pub eight_each : (bytes eight : List ℕ) (at : ℕ) → eight ≡ take 8 (drop at bytes)
+    → (get_or eight 0 0 ≡ get_or bytes at 0)
+    × (get_or eight 1 0 ≡ get_or bytes (at + 1) 0)
+    × (get_or eight 2 0 ≡ get_or bytes (at + 2) 0)
+    × (get_or eight 3 0 ≡ get_or bytes (at + 3) 0)
+    × (get_or eight 4 0 ≡ get_or bytes (at + 4) 0)
+    × (get_or eight 5 0 ≡ get_or bytes (at + 5) 0)
+    × (get_or eight 6 0 ≡ get_or bytes (at + 6) 0)
+    × (get_or eight 7 0 ≡ get_or bytes (at + 7) 0)
+eight_each bytes eight at e =
+    let each : (i : ℕ) → i < 8 → get_or eight i 0 ≡ get_or bytes (at + i) 0 = λ i h. rw e (get_or-take 8 (drop at bytes) i 0 h ∙ get_or-drop at bytes i 0) in
+    let here : at + 0 ≡ at = omega arith in (
+      rw here at (each 0 (omega arith)),
       each 1 (omega arith),
       each 2 (omega arith),
       each 3 (omega arith),
@@ -210,7 +223,12 @@ eight_low bytes eight at e =
       each 5 (omega arith),
       each 6 (omega arith),
       each 7 (omega arith),
-    ))
+    )
+
+pub eight_low : (bytes eight : List ℕ) (at : ℕ) → eight ≡ take 8 (drop at bytes) → from_le_bytes w64 eight ≡ low_first 8 bytes at
+eight_low bytes eight at e =
+    let each = eight_each bytes eight at e in
+    rw (eight_sum bytes at) (omega (arith, each.0, each.1, each.2, each.3, each.4, each.5, each.6, each.7))
 
 -- past the end there are only zeros
 none_left : (n : ℕ) (b : List ℕ) (at : ℕ) → length b ≤ at → low_first n b at ≡ 0
@@ -272,9 +290,10 @@ unfolding ones_of
 ones_none zero = refl
 ones_none (suc order) = refl
 
-pub ones_little : (s : ℕ) → s ≤ 64 → ones_of 1 s ≡ 18446744073709551615 / 2 ^ (64 - s)
+pub ones_little : (order s : ℕ) → order ≢ 0 → s ≤ 64 → ones_of order s ≡ 18446744073709551615 / 2 ^ (64 - s)
 unfolding ones_of
-ones_little s h =
+ones_little zero s d h = absurd (d refl)
+ones_little (suc order) s d h =
     let e : s + (64 - s) ≡ 64 = omega arith in
     let split : 18446744073709551615 ≡ (2 ^ s - 1) * 2 ^ (64 - s) + (2 ^ (64 - s) - 1) = rw e at (ones_split s (64 - s)) in
     rw split (sym (high (2 ^ s - 1) (64 - s) (ones_lt (64 - s))))

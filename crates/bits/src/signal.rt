@@ -28,7 +28,7 @@ pub fn bytes_of(payload: &[u8]) -> u64
 
 // The signal at a position of eight bytes, `bytes` as such a number.
 #[tactic(auto, unfolding(crate::specs::Signal::signal_at))]
-pub fn take_signal(order: Order, bytes: u64, position: usize, size: usize) -> Signal
+pub fn take_signal_in(order: Order, bytes: u64, position: usize, size: usize) -> Signal
     ensures { result ≡ signal_at (order_number order) bytes position size }
 {
     let bits = from_bit(order, bytes, position);
@@ -39,6 +39,14 @@ pub fn take_signal(order: Order, bytes: u64, position: usize, size: usize) -> Si
         bits,
         ones,
     }
+}
+
+// The same in the order that a byte tells.
+#[tactic(auto, using(crate::proofs::OrderLaws::signal_at_told))]
+pub fn take_signal(order: u8, bytes: u64, position: usize, size: usize) -> Signal
+    ensures { result ≡ signal_at order bytes position size }
+{
+    take_signal_in(Order::from(order), bytes, position, size)
 }
 
 // Eight bytes made up of the kept ones and new ones, each eight as a number: the digits are the new ones' where the mask has a one.
@@ -72,7 +80,7 @@ fn put_bytes(kept: &mut [u8], at: usize, new: u64, mask: u64) -> bool
 
 // A signal goes to bit `q` of the kept payload and those after it, as far as the eight bytes there have room. Answers whether any bit there differed.
 // What it promises holds of each payload that the signal can have been taken from.
-pub fn put_signal(order: Order, signal: Signal, kept: &mut [u8], q: usize) -> bool
+pub fn put_signal_in(order: Order, signal: Signal, kept: &mut [u8], q: usize) -> bool
     requires { (signal.ones ≡ ones_of (order_number order) (at_most 64 signal.size)) × (q + fitting q signal.size ≤ 8 * length kept.old) }
     ensures payload { (source : List ℕ) (p : ℕ) → Bits (order_number order) signal.bits source p signal.size
         → kept.new ≡ copied (order_number order) source p (fitting q signal.size) kept.old q }
@@ -94,4 +102,15 @@ pub fn put_signal(order: Order, signal: Signal, kept: &mut [u8], q: usize) -> bo
             little_bytes(signal.ones, o),
         ),
     }
+}
+
+// The same in the order that a byte tells.
+pub fn put_signal(order: u8, signal: Signal, kept: &mut [u8], q: usize) -> bool
+    requires { (signal.ones ≡ ones_of order (at_most 64 signal.size)) × (q + fitting q signal.size ≤ 8 * length kept.old) }
+    ensures payload { (source : List ℕ) (p : ℕ) → Bits order signal.bits source p signal.size
+        → kept.new ≡ copied order source p (fitting q signal.size) kept.old q }
+    ensures answer { (source : List ℕ) (p : ℕ) → Bits order signal.bits source p signal.size
+        → result ≡ differs order source p (fitting q signal.size) kept.old q }
+{
+    put_signal_in(Order::from(order), signal, kept, q)
 }

@@ -1,7 +1,6 @@
 // Document 01's cases 1 to 9, worked out by the proved functions: the copies, then the counter, then the ticks of two timers.
 #![tactic(auto)]
 
-use bits::order::Order;
 use bits::payload::copy_signal;
 use clock::{counter, timer};
 
@@ -11,7 +10,7 @@ fn line(rt: &impl Print) {
 }
 
 // Cases 1 to 4: from byte 2C, position 2, size 4, to position 6 of two bytes.
-fn show_copy(rt: &impl Print, order: Order, fill: u8) {
+fn show_copy(rt: &impl Print, order: u8, fill: u8) {
     let source = [0x2cu8; 1];
     let mut kept = [fill; 2];
     copy_signal(order, &source, 2, 4, &mut kept, 6);
@@ -23,7 +22,7 @@ fn show_copy(rt: &impl Print, order: Order, fill: u8) {
 fn show_whole(rt: &impl Print) {
     let source = [1, 2, 3, 4, 5, 6, 7, 255];
     let mut kept = [9u8; 8];
-    copy_signal(Order::Big, &source, 0, 64, &mut kept, 0);
+    copy_signal(0, &source, 0, 64, &mut kept, 0);
     for byte in kept {
         print!(rt; "{byte:02x}").is_ok();
     }
@@ -63,10 +62,10 @@ fn show_expiries(rt: &impl Print) {
 }
 
 fn main(rt: HostRuntime) {
-    show_copy(&rt, Order::Big, 0x00);
-    show_copy(&rt, Order::Little, 0x00);
-    show_copy(&rt, Order::Big, 0xff);
-    show_copy(&rt, Order::Little, 0xff);
+    show_copy(&rt, 0, 0x00);
+    show_copy(&rt, 1, 0x00);
+    show_copy(&rt, 0, 0xff);
+    show_copy(&rt, 1, 0xff);
     show_whole(&rt);
     let tenth = counter::next(0x09);
     println!(rt; "{tenth:02x}").is_ok();

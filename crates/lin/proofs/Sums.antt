@@ -4,9 +4,12 @@ use mathlib.Core.Logic.{⊎_elim}
 use mathlib.Core.Logic.◌⊎◌.{inl, inr}
 use mathlib.Core.List.{List, [], ◌∷◌}
 use Prim.Native.Nat.{ℕ, zero, suc, ◌+◌, ◌-◌, ◌/◌, ◌%◌, ◌<◌}
+use native.Mathlib.Numerals.{add-one}
 use native.Mathlib.Omega.{arith}
 use Rattle.std.specs.List.{fold}
-use Rattle.base.specs.Numbers.{Bytes}
+use lib.ListN.{length, drop}
+use lib.Seq.{drop-cons}
+use Rattle.base.specs.Numbers.{byte_at, Bytes}
 use Rattle.lin.specs.Checksum.{carried, folded_from, folded, inverted, checksum_of}
 use Rattle.lin.specs.Statements.{KnownChecksum, plain_sum, Folds, FoldedSum}
 
@@ -21,6 +24,12 @@ Folds-from (suc sum) [] h b = inr (omega arith)
 Folds-from sum (byte ∷ bytes) h b =
     ⊎_elim (λ w. inl (omega arith)) (λ w. inr (omega arith))
     (Folds-from (carried sum byte) bytes (carried_byte sum byte h (b 0)) (λ k. b (suc k)))
+
+-- one turn: the byte at a place
+pub folded_step : (sum i : ℕ) (bytes : List ℕ) → i < length bytes
+    → folded_from sum (drop i bytes) ≡ folded_from (carried sum (byte_at bytes i)) (drop (i + 1) bytes)
+unfolding folded_from
+folded_step sum i bytes h = rw (add-one, drop-cons bytes i 0)
 
 folded_from_is : (sum : ℕ) (bytes : List ℕ) → fold carried sum bytes ≡ folded_from sum bytes
 unfolding folded_from

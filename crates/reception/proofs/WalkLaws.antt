@@ -82,7 +82,13 @@ unfolding restarted restarted_by
 Kept-again true a r h = Kept-restarted a r h
 Kept-again false a r h = Kept-low (long (r % 256)) _ (omega arith) (omega arith) (Kept-refl a)
 
--- the walk goes in the order that the head's byte tells
+-- the walk goes in the order that a byte tells
+pub walked_by_told :
+    (byte : ℕ) (source : List ℕ) (p s : ℕ) (bytes : List ℕ) (k : ℕ) (a : List ℕ) → walked (order_told byte) source p s bytes k a ≡ walked byte source p s bytes k a
+unfolding walked
+walked_by_told byte source p s bytes k a = all_done_told byte _ _ a
+
+-- and so in that which the head's byte tells
 pub walked_told :
     (o : ℕ) (a payload : List ℕ) (from : ℕ) → o ≡ order_told (order a)
     → walked o payload 0 0 (stored a) from a ≡ walked (order a) payload 0 0 (stored a) from a

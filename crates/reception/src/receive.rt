@@ -4,9 +4,9 @@ ghost use Rattle.area.specs.Layout.{last_place, row_bound, LongEnough, rx_fields
 ghost use Rattle.reception.specs.Reception.{restarted_by, accepted_by, received_answer, received_area};
 
 use crate::lookup::{Found, look_up};
-use crate::walk::walk;
+use crate::walk::walk_own;
 use answers::{Received, Refusal};
-use area::claims::write_failure;
+use area::claims::write_failure_in;
 use area::frames::{rx_fields_place, rx_long, rx_size};
 use area::guards::{check_node, check_open};
 use area::header::{self, node_type};
@@ -50,8 +50,8 @@ pub fn accept<const TIMER: bool>(area: &mut [u8], r: RxNumber, at: usize, payloa
     ensures { area.new ≡ accepted_by TIMER area.old r.0 payload.now }
 {
     restart::<TIMER>(area, r, at);
-    write_failure(header::order(area), 0, area, at);
-    walk(area, at + RX_FIELDS, payload);
+    write_failure_in(header::order(area), 0, area, at);
+    walk_own(area, at + RX_FIELDS, payload);
 }
 
 // Row `r`, whose fields begin at `at`: the Rx timer takes its reload value, if it starts too, and the long counter the long count.

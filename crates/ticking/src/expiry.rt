@@ -4,7 +4,7 @@ ghost use Rattle.area.specs.Layout.{LongEnough};
 ghost use Rattle.ticking.specs.Tick.{timed_out, report_number, expired_area, rx_expiry, expiry_report};
 
 use answers::Timeout;
-use area::claims::write_failure;
+use area::claims::write_failure_in;
 use area::frames::{home_node, rx_fields_place, rx_long};
 use area::header::{self, node_type};
 use area::layout::{REQUESTS_START, long};
@@ -38,7 +38,7 @@ pub fn expire(area: &mut [u8], r: RxNumber) -> Timeout
     let most = rx_long(area, at);
     let counter = long(r);
     let count = area[counter];
-    write_failure(order, 1, area, at);
+    write_failure_in(order, 1, area, at);
     area[counter] = clock::timer::lower(most, count);
     if count == 1 {
         return Timeout::Long;

@@ -1,22 +1,15 @@
--- `area::claims::copy_claim` meets its contract: the flags are read before the signal is put, which answers whether a bit changed.
-use mathlib.Core.Path.{◌≡◌}
-use Prim.Native.Nat.{◌%◌}
-use native.Mathlib.Nat.{mod-eq_of_lt}
-use native.Mathlib.Omega.{arith}
-use Rattle.bits.proofs.Fitting.{fitting_room}
-use Rattle.area.specs.Layout.{spot}
-use Rattle.area.specs.Claims.{done, done_by, sent_by}
+-- `area::claims::copy_claim` meets its contract: it copies in the order that the byte tells, and no definition tells that order from the byte.
+use Rattle.bits.proofs.OrderLaws.{ones_of_told, Bits-told}
+use Rattle.area.specs.Claims.{accepted}
+use Rattle.area.proofs.ClaimLaws.{done_told}
 use Rattle.area.proofs.claims.copy_claim.Goals as goal
 
-pub put_signal-changed-requires : goal.put_signal-changed-requires
-put_signal-changed-requires c =
-    let v = c.args in
-    (c.requires.0, omega (arith, fitting_room (spot v.t.0 v.q) v.signal.size, c.requires.1, c.requires.2, c.requires.3))
+pub copy_claim_in-requires : goal.copy_claim_in-requires
+copy_claim_in-requires c = (rw (c.from.ensures, ones_of_told c.args.order) c.requires.0, c.requires.1, c.requires.2, c.requires.3)
 
 pub returns : goal.returns
-unfolding done done_by sent_by
 returns c source has =
-    let m : c.args.t.0 % 256 ≡ c.args.t.0 = mod-eq_of_lt c.requires.1 in
-    let payload = c.put_signal-changed.ensures.payload source c.args.signal.position has in
-    let changed = c.put_signal-changed.ensures.answer source c.args.signal.position has in
-    rw (m, ← payload, ← changed, ← c.tx_flags.ensures) c.send_if.ensures
+    let v = c.args in
+    let put = rw c.from.ensures at c.copy_claim_in.ensures in
+    rw (← done_told v.order (accepted 0 source) v.area.now _)
+    (put source (Bits-told v.order v.signal.bits source v.signal.position v.signal.size has))

@@ -1,38 +1,19 @@
--- `bits::signal::put_signal` meets its contract: in either order the bytes that it makes up are those of the copy.
-use borrow.Author.Rules.{rules}
-use native.Mathlib.Omega.{arith}
-use lib.ListN.{length}
-use Rattle.bits.proofs.SignalLaws.{mask_room, put_gives}
+-- `bits::signal::put_signal` meets its contract: it puts in the order that the byte tells, and no definition tells that order from the byte.
+use Rattle.bits.specs.Word.{fitting}
+use Rattle.bits.proofs.OrderLaws.{copied_told, differs_told, ones_of_told, Bits-told}
 use Rattle.bits.proofs.signal.put_signal.Goals as goal
 
-pub put_bytes-requires : goal.put_bytes-requires
-put_bytes-requires c = let v = c.args in
-    let pre = rw c.in-Big.is at c.requires in (
-      omega (arith, pre.1),
-      omega (arith, c.ranges.q.fits),
-      rw (c.big_bytes-in-Big.ensures, pre.0) (mask_room 0 v.signal.size v.q (length v.kept.now) pre.1),
-    )
+pub put_signal_in-requires : goal.put_signal_in-requires
+put_signal_in-requires c = (rw (c.from.ensures, ones_of_told c.args.order) c.requires.0, c.requires.1)
 
-pub returns-in-Big : goal.returns-in-Big
-returns-in-Big c =
+pub returns : goal.returns
+returns c =
     let v = c.args in
-    let pre = rw c.in-Big.is at c.requires in
-    let put = c.put_bytes.ensures in
-    let all = put_gives 0 v.signal.size v.q v.kept.now _ _ v.signal.bits _ _ _ pre.0 c.big_bytes.ensures c.big_bytes-in-Big.ensures
-    pre.1 (λ k. search rules) put.bytes put.answer in rw c.in-Big.is (record { payload = all.0; answer = all.1 })
-
-pub put_bytes-requires-in-Little : goal.put_bytes-requires-in-Little
-put_bytes-requires-in-Little c = let v = c.args in
-    let pre = rw c.in-Little.is at c.requires in (
-      omega (arith, pre.1),
-      omega (arith, c.ranges.q.fits),
-      rw (c.little_bytes-in-Little.ensures, pre.0) (mask_room 1 v.signal.size v.q (length v.kept.now) pre.1),
-    )
-
-pub returns-in-Little : goal.returns-in-Little
-returns-in-Little c =
-    let v = c.args in
-    let pre = rw c.in-Little.is at c.requires in
-    let put = c.put_bytes-in-Little.ensures in
-    let all = put_gives 1 v.signal.size v.q v.kept.now _ _ v.signal.bits _ _ _ pre.0 c.little_bytes.ensures c.little_bytes-in-Little.ensures
-    pre.1 (λ k. search rules) put.bytes put.answer in rw c.in-Little.is (record { payload = all.0; answer = all.1 })
+    let put = rw c.from.ensures at c.put_signal_in.ensures in
+    let n = fitting v.q v.signal.size in
+    record {
+      payload = λ source p has.
+          rw (← copied_told v.order source p n v.kept.now v.q) (put.payload source p (Bits-told v.order v.signal.bits source p v.signal.size has));
+      answer = λ source p has.
+          rw (← differs_told v.order source p n v.kept.now v.q) (put.answer source p (Bits-told v.order v.signal.bits source p v.signal.size has));
+    }

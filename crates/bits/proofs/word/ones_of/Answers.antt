@@ -1,6 +1,7 @@
 -- `bits::word::ones_of` meets its contract: all of 64 ones, pushed up or down.
 use mathlib.Core.Path.{sym}
 use borrow.Author.Rules.{rules}
+use native.Mathlib.Omega.{arith}
 use Rattle.bits.proofs.OrderLaws.{not_big}
 use Rattle.bits.proofs.WordLaws.{ones_none, ones_little, ones_big}
 use Rattle.bits.proofs.word.ones_of.Goals as goal
@@ -12,4 +13,4 @@ pub returns-in-Big : goal.returns-in-Big
 returns-in-Big c = rw c.in-Big.is (sym (ones_big _ (search rules)))
 
 pub returns : goal.returns
-returns c = rw (not_big _ c.in_default.not-Big) (sym (ones_little _ (search rules)))
+returns c = rw (not_big _ c.in_default.not-Big) (sym (ones_little 1 _ (λ e. omega arith) (search rules)))

@@ -7,6 +7,6 @@ pub returns : goal.returns
 returns g c =
     let v = c.args in
     let place = c.requires.1 in
-    (rw place at c.walk.ensures)
+    (rw place at c.walk_own.ensures)
     ∙ walked_accepted _ v.area.now v.r.0 v.payload.now _ _ _ c.order.ensures c.requires.0 c.restart.ensures
-    (rw place at c.write_failure.ensures.bytes) (rw place at c.write_failure.ensures.narrow)
+    (rw place at c.write_failure_in.ensures.bytes) (rw place at c.write_failure_in.ensures.narrow)

@@ -10,12 +10,12 @@ pub returns-then-count-eq1 : goal.returns-then-count-eq1
 unfolding timed_out
 returns-then-count-eq1 c =
     let v = c.args in
-    let done = expired_is v.area.now v.r.0 _ _ c.order-order.ensures c.requires.0 c.rx_fields_place-at.ensures.0 c.write_failure.ensures.narrow in
+    let done = expired_is v.area.now v.r.0 _ _ c.order-order.ensures c.requires.0 c.rx_fields_place-at.ensures.0 c.write_failure_in.ensures.narrow in
     record { timeout = sym (picks _ _ _ (eq-eqb _ _ (rw c.long-counter.ensures at c.if-count-eq1.true))); bytes = cc }
 
 pub returns : goal.returns
 unfolding timed_out
 returns c =
     let v = c.args in
-    let done = expired_is v.area.now v.r.0 _ _ c.order-order.ensures c.requires.0 c.rx_fields_place-at.ensures.0 c.write_failure.ensures.narrow in
+    let done = expired_is v.area.now v.r.0 _ _ c.order-order.ensures c.requires.0 c.rx_fields_place-at.ensures.0 c.write_failure_in.ensures.narrow in
     record { timeout = sym (passes _ _ _ (ne_eqb _ _ (rw c.long-counter.ensures at c.if-count-eq1.false))); bytes = cc }

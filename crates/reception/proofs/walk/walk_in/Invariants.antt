@@ -1,4 +1,4 @@
--- `walk::walk` meets its contract. The loop's invariant: the rest of the walk gives what the whole gives, the area has kept the plan, and the signal's
+-- `walk::walk_in` meets its contract. The loop's invariant: the rest of the walk gives what the whole gives, the area has kept the plan, and the signal's
 -- bits are the payload's. The measure is what is left of the part that holds the plan.
 use mathlib.Core.Path.{◌≡◌}
 use Prim.Native.Nat.{◌-◌, ◌≤◌, ◌<◌}
@@ -8,7 +8,7 @@ use Rattle.bits.specs.Word.{Bits, ones_of}
 use Rattle.area.specs.Layout.{plan_room, stored}
 use Rattle.area.proofs.Kept.{Kept}
 use Rattle.reception.specs.Walk.{walked}
-use Rattle.reception.proofs.walk.walk.Given as goal
+use Rattle.reception.proofs.walk.walk_in.Given as goal
 
 abbrev pub invariant-loop-at : goal.invariant-loop-at
 invariant-loop-at l = Kept l.initial.area l.area × (l.signal.size < 256) × (l.at ≤ plan_room)

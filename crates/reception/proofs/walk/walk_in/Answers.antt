@@ -1,4 +1,4 @@
--- `walk::walk` meets its contract. The loop's invariant: the rest of the walk gives what the whole gives, the area has kept the plan, and the signal's
+-- `walk::walk_in` meets its contract. The loop's invariant: the rest of the walk gives what the whole gives, the area has kept the plan, and the signal's
 -- bits are the payload's. The measure is what is left of the part that holds the plan.
 use mathlib.Core.Path.{refl, sym, ◌∙◌}
 use native.Mathlib.Omega.{arith}
@@ -12,8 +12,8 @@ use Rattle.area.specs.Claims.{accepted}
 use Rattle.area.proofs.StoredLaws.{stored-length}
 use Rattle.area.proofs.Kept.{Kept-refl, Kept-then, Kept-done, stored_kept}
 use Rattle.area.proofs.ClaimLaws.{Narrow-copy}
-use Rattle.reception.proofs.WalkLaws.{walk_end, walk_signal, walk_destination, walk_stop, walked_told}
-use Rattle.reception.proofs.walk.walk.Goals as goal
+use Rattle.reception.proofs.WalkLaws.{walk_end, walk_signal, walk_destination, walk_stop}
+use Rattle.reception.proofs.walk.walk_in.Goals as goal
 
 pub loop-at-init : goal.loop-at-init
 unfolding at_most pick
@@ -38,8 +38,8 @@ pub plan_byte-requires-then-kind-eq-DESTINATION_KIND : goal.plan_byte-requires-t
 plan_byte-requires-then-kind-eq-DESTINATION_KIND c =
     (omega (arith, c.loop-at-test.true), omega (arith, c.loop-at.invariant.0.len))
 
-pub copy_claim-requires : goal.copy_claim-requires
-copy_claim-requires c =
+pub copy_claim_in-requires : goal.copy_claim_in-requires
+copy_claim_in-requires c =
     let l = c.loop-at in
     (l.invariant.4, c.wide.ensures.1, c.wide-q.ensures.1, omega (arith, l.invariant.0.len, c.requires.2))
 
@@ -64,14 +64,14 @@ loop-at-preserved-then-kind-eq-DESTINATION_KIND c =
     let q = c.wide-q in
     let low = t.ensures.0 ∙ (rw same at c.plan_byte.ensures) in
     let place = q.ensures.0 ∙ (rw same at c.plan_byte-then-kind-eq-DESTINATION_KIND.ensures) in
-    let put = c.copy_claim.ensures v.payload.now l.invariant.5 in
+    let put = c.copy_claim_in.ensures v.payload.now l.invariant.5 in
     let narrow = Narrow-copy 0 t.result q.result q.ensures.1 p s (omega (arith, l.invariant.1)) in
-    let kept = Kept-done (order_number c.order-order.result) (accepted 0 v.payload.now) l.area _ narrow in (
+    let kept = Kept-done (order_number c.args.order) (accepted 0 v.payload.now) l.area _ narrow in (
       rw put (Kept-then l.invariant.0 kept),
       l.invariant.1,
       omega (arith, c.loop-at-test.true),
       rw (put, place)
-          (sym (walk_destination (order_number c.order-order.result) v.payload.now p s (stored v.area.now) l.at l.area t.result t.ensures.1 low
+          (sym (walk_destination (order_number c.args.order) v.payload.now p s (stored v.area.now) l.at l.area t.result t.ensures.1 low
           (omega (arith, size, c.loop-at-test.true)) kind) ∙ l.invariant.3),
       l.invariant.4,
       l.invariant.5,
@@ -85,8 +85,8 @@ returns-then-kind-ne-SIGNAL_KIND c =
     let v = c.args in
     let l = c.loop-at in
     let read = rw (stored_kept l.invariant.0) at c.plan_byte-kind.ensures in
-    sym (walk_stop (order_number c.order-order.result) v.payload.now l.signal.position l.signal.size (stored v.area.now) l.at l.area
-    (λ e. c.if-kind-ne-SIGNAL_KIND.true (read ∙ e)) (λ e. c.if-kind-eq-DESTINATION_KIND.false (read ∙ e))) ∙ l.invariant.3 ∙ walked_told _ v.area.now v.payload.now v.from c.order-order.ensures
+    sym (walk_stop (order_number c.args.order) v.payload.now l.signal.position l.signal.size (stored v.area.now) l.at l.area
+    (λ e. c.if-kind-ne-SIGNAL_KIND.true (read ∙ e)) (λ e. c.if-kind-eq-DESTINATION_KIND.false (read ∙ e))) ∙ l.invariant.3
 
 pub overflow_add-at-else-kind-eq-DESTINATION_KIND : goal.overflow_add-at-else-kind-eq-DESTINATION_KIND
 overflow_add-at-else-kind-eq-DESTINATION_KIND c = omega (arith, c.loop-at-test.true)
@@ -119,13 +119,13 @@ loop-at-preserved c =
     let position = c.wide-p.ensures.0 ∙ (rw same at c.plan_byte-else-kind-eq-DESTINATION_KIND.ensures) in
     let width = c.wide-s.ensures.0 ∙ (rw same at c.plan_byte-else-kind-eq-DESTINATION_KIND-2.ensures) in
     let bits =
-    signal_bits (order_number c.order-order.result) v.payload.now c.wide-p.result c.wide-s.result (λ k. (c.type_inv.payload k).fits) c.requires.0 in
-    rw c.take_signal-signal.ensures (
+    signal_bits (order_number c.args.order) v.payload.now c.wide-p.result c.wide-s.result (λ k. (c.type_inv.payload k).fits) c.requires.0 in
+    rw c.take_signal_in-signal.ensures (
       l.invariant.0,
       c.wide-s.ensures.1,
       omega (arith, c.loop-at-test.true),
       rw (position, width)
-          (sym (walk_signal (order_number c.order-order.result) v.payload.now l.signal.position l.signal.size (stored v.area.now) l.at l.area
+          (sym (walk_signal (order_number c.args.order) v.payload.now l.signal.position l.signal.size (stored v.area.now) l.at l.area
           (omega (arith, size, c.loop-at-test.true)) kind) ∙ l.invariant.3),
       refl,
       rw (← c.bytes_of-bytes.ensures) at bits,
@@ -139,5 +139,5 @@ returns c =
     let v = c.args in
     let l = c.loop-at in
     let size = stored-length v.area.now c.requires.2 in
-    sym (walk_end (order_number c.order-order.result) v.payload.now l.signal.position l.signal.size (stored v.area.now) l.at l.area
-    (omega (arith, size, c.loop-at-test.false))) ∙ l.invariant.3 ∙ walked_told _ v.area.now v.payload.now v.from c.order-order.ensures
+    sym (walk_end (order_number c.args.order) v.payload.now l.signal.position l.signal.size (stored v.area.now) l.at l.area
+    (omega (arith, size, c.loop-at-test.false))) ∙ l.invariant.3

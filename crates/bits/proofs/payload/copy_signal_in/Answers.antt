@@ -1,4 +1,4 @@
--- `bits::payload::copy_signal` meets its contract. The loop's invariant: after k bits the kept payload is `copied` of k, and the answer
+-- `bits::payload::copy_signal_in` meets its contract. The loop's invariant: after k bits the kept payload is `copied` of k, and the answer
 -- `differs` of k; a piece adds the copy of its bits.
 use mathlib.Core.Path.{◌≡◌, refl, ◌∙◌}
 use Prim.Native.Nat.{◌+◌, ◌-◌, ◌*◌, ◌%◌, ◌≤◌}
@@ -15,19 +15,19 @@ use Rattle.bits.proofs.SignalLaws.{copied_parts, differs_parts}
 use Rattle.bits.proofs.WordLaws.{piece_bits}
 use Rattle.bits.proofs.Fitting.{fitting-le, fitting_is}
 use Rattle.bits.proofs.PayloadLaws.{Bytes}
-use Rattle.bits.proofs.payload.copy_signal.Goals as goal
+use Rattle.bits.proofs.payload.copy_signal_in.Goals as goal
 
 pub loop-k-init : goal.loop-k-init
 unfolding copied differs
 loop-k-init c = search rules
 
-pub put_signal-changed-requires : goal.put_signal-changed-requires
+pub put_signal_in-changed-requires : goal.put_signal_in-changed-requires
 unfolding signal_at
-put_signal-changed-requires c = let v = c.args in
+put_signal_in-changed-requires c = let v = c.args in
     let l = c.loop-k in
     let fits : v.q + l.k + c.at_most-n.result ≤ 8 * length l.kept =
     omega (arith, c.at_most-n.ensures.0, at_most_fewer (56 - (v.q + l.k) % 8) (v.size - l.k)) in
-    let piece = c.take_signal-piece in
+    let piece = c.take_signal_in-piece in
     let stored = rw piece.ensures at (fitting-le (v.q + l.k) piece.result.size) in
     rw piece.ensures (refl, omega (arith, stored, fits))
 
@@ -54,13 +54,13 @@ loop-k-preserved c =
     let n = most.result in
     let fewer : n ≤ v.size - l.k = omega (arith, most.ensures.0, at_most_fewer (56 - (v.q + l.k) % 8) (v.size - l.k)) in
     let b : Bytes v.source.now = λ k. (c.type_inv.source k).fits in
-    let piece = c.take_signal-piece in
+    let piece = c.take_signal_in-piece in
     let has : Bits (order_number v.order) piece.result.bits v.source.now (v.p + l.k) piece.result.size =
     rw (piece.ensures, c.low_first-bytes.ensures)
     (piece_bits (order_number v.order) v.source.now (v.p + l.k) n b (omega (arith, most.ensures.1))) in
     let whole : fitting (v.q + l.k) piece.result.size ≡ n =
     rw piece.ensures (fitting_is (v.q + l.k) n (omega (arith, most.ensures.1))) in
-    let put = c.put_signal-changed in
+    let put = c.put_signal_in-changed in
     let kept = rw whole at (put.ensures.payload v.source.now (v.p + l.k) has) in
     let answer = rw whole at (put.ensures.answer v.source.now (v.p + l.k) has) in (
       omega arith,

@@ -4,19 +4,19 @@ use mathlib.Core.List.{List}
 use Prim.Native.Nat.{ℕ, ◌+◌, ◌-◌, ◌≤◌, ◌<◌}
 use native.Mathlib.Omega.{arith}
 use borrow.Author.Tests.{le-leb, lt-leb, leb-false, ltb-false, ne_eqb, lt-ltb, le-ltb}
-use lib.ListN.{length}
+use lib.ListN.{length, take, drop, replicate}
 use lib.Dec.{leb, ltb, eqb}
 use Rattle.base.specs.Pick.{pick}
 use Rattle.base.specs.Numbers.{byte_at, two_at}
 use Rattle.base.proofs.Apart.{differ}
-use Rattle.base.proofs.Picks.{picks, cases, by_eqb}
+use Rattle.base.proofs.Picks.{picks, passes, cases, by_eqb}
 use Rattle.records.specs.Ids.{behind_id}
 use Rattle.events.specs.declared.Event.{Event}
 use Rattle.events.specs.declared.Event.TheVariants.{Bad}
 use Rattle.events.specs.declared.Kind.{Kind}
 use Rattle.events.specs.declared.Kind.TheVariants as kind
 use Rattle.std.specs.Prelude.{Option, Some, None}
-use Rattle.events.specs.Events.{byte_of, front_of, event_length, whole_event, event_at, event_size, Within}
+use Rattle.events.specs.Events.{byte_of, front_of, event_length, whole_event, event_at, event_size, Within, payload_at}
 
 -- the input's front, by what decides it
 module _ (input : List ℕ) where
@@ -110,3 +110,13 @@ event_before input at e =
     cases (λ (read : Option Event). Some e ≡ read → at < length input) (leb (length input) at) _ _
     (λ t q. absurd (differ cc))
     (λ t q. omega (arith, leb-false))
+
+-- the payload that is handed on
+module _ (input : List ℕ) (at : ℕ) where
+  pub payload_long : 8 < byte_at input at → payload_at input at ≡ replicate 9 0
+  unfolding payload_at
+  payload_long l = picks _ _ _ (lt-ltb _ _ l)
+
+  pub payload_short : byte_at input at ≤ 8 → payload_at input at ≡ take (byte_at input at) (drop (at + 1) input)
+  unfolding payload_at
+  payload_short l = passes _ _ _ (le-ltb _ _ l)

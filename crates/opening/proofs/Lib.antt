@@ -4,4 +4,5 @@ pub mod Passing
 pub mod Alike
 pub mod BlankLaws
 pub mod Counted
+pub mod Answers
 pub mod OpenedLaws

@@ -4,7 +4,7 @@ use mathlib.Core.List.{List}
 use Prim.Native.Nat.{ℕ, ◌+◌, ◌-◌, ◌≤◌, ◌<◌}
 use native.Mathlib.Omega.{arith}
 use borrow.Author.Tests.{le-leb, lt-leb, leb-false, ltb-false, ne_eqb, lt-ltb, le-ltb}
-use lib.ListN.{length, take, drop, replicate}
+use lib.ListN.{length, take, drop, replicate, length-take}
 use lib.Dec.{leb, ltb, eqb}
 use Rattle.base.specs.Pick.{pick}
 use Rattle.base.specs.Numbers.{byte_at, two_at}
@@ -120,3 +120,10 @@ module _ (input : List ℕ) (at : ℕ) where
   pub payload_short : byte_at input at ≤ 8 → payload_at input at ≡ take (byte_at input at) (drop (at + 1) input)
   unfolding payload_at
   payload_short l = passes _ _ _ (le-ltb _ _ l)
+
+  pub payload_few : length (payload_at input at) ≤ 9
+  unfolding payload_at
+  payload_few =
+      cases (λ (p : List ℕ). length p ≤ 9) (ltb 8 (byte_at input at)) _ _
+      (λ t. omega arith)
+      (λ t. omega (arith, ltb-false, length-take (byte_at input at) (drop (at + 1) input)))

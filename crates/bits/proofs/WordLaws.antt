@@ -238,7 +238,8 @@ none_left (suc n) b at h =
     let past : get_or b at 0 ≡ 0 = get_or-eq_default b 0 h in
     rw (past, none_left n b (at + 1) (omega arith))
 
-low_first_past : (n m : ℕ) (b : List ℕ) (at : ℕ) → length b ≤ at + n → low_first (n + m) b at ≡ low_first n b at
+-- and bytes past it count nothing
+pub low_first_past : (n m : ℕ) (b : List ℕ) (at : ℕ) → length b ≤ at + n → low_first (n + m) b at ≡ low_first n b at
 unfolding low_first
 low_first_past zero m b at h = rw zero-add (none_left m b at (omega arith))
 low_first_past (suc n) m b at h = rw (suc-add, low_first_past n m b (at + 1) (omega arith))

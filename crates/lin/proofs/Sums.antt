@@ -31,7 +31,8 @@ pub folded_step : (sum i : ℕ) (bytes : List ℕ) → i < length bytes
 unfolding folded_from
 folded_step sum i bytes h = rw (add-one, drop-cons bytes i 0)
 
-folded_from_is : (sum : ℕ) (bytes : List ℕ) → fold carried sum bytes ≡ folded_from sum bytes
+-- the sum byte by byte is the library's fold
+pub folded_from_is : (sum : ℕ) (bytes : List ℕ) → fold carried sum bytes ≡ folded_from sum bytes
 unfolding folded_from
 folded_from_is sum [] = refl
 folded_from_is sum (byte ∷ bytes) = folded_from_is (carried sum byte) bytes

@@ -96,14 +96,14 @@ onward (NoResponse node id) input at h = omega arith
 onward Bad input at h = omega arith
 
 -- and stays within the input where the event does
-pub inside : (e : Event) (input : List ℕ) (at : ℕ) → at + event_size e ≤ length input → event_next e input at ≤ length input
+pub next_inside : (e : Event) (input : List ℕ) (at : ℕ) → at + event_size e ≤ length input → event_next e input at ≤ length input
 unfolding event_next event_size
-inside (Reception node id size) input at h = omega arith
-inside Tick input at h = omega arith
-inside (Take node) input at h = omega arith
-inside (Response node id size sum) input at h = omega arith
-inside (NoResponse node id) input at h = omega arith
-inside Bad input at h = omega arith
+next_inside (Reception node id size) input at h = omega arith
+next_inside Tick input at h = omega arith
+next_inside (Take node) input at h = omega arith
+next_inside (Response node id size sum) input at h = omega arith
+next_inside (NoResponse node id) input at h = omega arith
+next_inside Bad input at h = omega arith
 
 -- where there is no event, the input is at its end
 pub past : (input : List ℕ) (at : ℕ) → None ≡ event_at input at → length input ≤ at

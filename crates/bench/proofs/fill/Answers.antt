@@ -7,7 +7,7 @@ use borrow.Rule.Slice.PartMut.{same_len_mid}
 use lib.ListN.{length, take, length-take, length-drop}
 use Rattle.events.proofs.EventLaws.{event_before}
 use Rattle.output.specs.Output.{event_text, text_from}
-use Rattle.output.proofs.OutputLaws.{shown_more, turn, onward, inside, past}
+use Rattle.output.proofs.OutputLaws.{shown_more, turn, onward, next_inside, past}
 use Rattle.bench.proofs.fill.Goals as goal
 
 pub loop-event-preserved : goal.loop-event-preserved
@@ -18,7 +18,7 @@ loop-event-preserved c =
     let event = c.in-Some.event in
     let before = event_before input loop.at event c.in-Some.ensures.event in
     let on = onward event input loop.at before in
-    let stays = inside event input loop.at c.in-Some.ensures.within in
+    let stays = next_inside event input loop.at c.in-Some.ensures.within in
     let k = length loop.out - loop.used in
     let line = c.show-used.new.line in
     let size = c.show-used.result in

@@ -1,5 +1,6 @@
 -- Laws of text put into a line, of decimal numbers, and of what is written for each byte.
 use mathlib.Core.Path.{◌≡◌, refl, sym, ap, ◌∙◌}
+use mathlib.Core.Bool.{false}
 use mathlib.Core.Logic.{⊎_elim}
 use mathlib.Core.List.{List, [], ◌∷◌, ◌++◌, append_assoc, append-nil}
 use Prim.Native.Nat.{ℕ, zero, suc, ◌+◌, ◌/◌, ◌%◌, ◌^◌, ◌≤◌, ◌<◌}
@@ -10,8 +11,13 @@ use lib.Seq.{sets, sets-eq, take-suc, take_at}
 use lib.Dec.{ltb}
 use native.Mathlib.Nat.{pow-suc, eq-zero-or-pos}
 use borrow.Author.Tests.{lt-ltb, le-ltb, ltb-false}
+use Rattle.std.proofs.Common.{rules}
+use Rattle.std.specs.Fmt.{digits, decimal as std_decimal}
+use Rattle.std.specs.List.{flat_map}
+use Rattle.std.proofs.lemmas.Fmt.{AppendsLastDigit, decimal_from_appends, length-decimal-le_succ, hex_one_digit}
+use Rattle.base.specs.Pick.{pick}
 use Rattle.base.proofs.Picks.{picks, passes, cases}
-use Rattle.text.specs.Text.{glyph, decimal_in, decimal, each, spaced, written, Put}
+use Rattle.text.specs.Text.{glyph, decimal_in, decimal, hex_byte, each, spaced, written, Put}
 
 -- text within the line stands there whole, and nothing else changes
 pub written_is : (line : List ℕ) (at : ℕ) (text : List ℕ) → at + length text ≤ length line
@@ -68,6 +74,29 @@ unfolding decimal decimal_in
 decimal_more n h =
     passes _ _ _ (le-ltb n 10 h) ∙ ap (λ (ds : List ℕ). ds ++ (glyph (n % 10) ∷ [])) (enough n (suc (n / 10)) (n / 10) (omega arith) (omega arith))
 
+-- std's digits of a number of 64 bits are these
+appends : AppendsLastDigit decimal_in
+unfolding decimal_in glyph pick
+appends = record { one = λ k n h. rw (lt-ltb n 10 h); more = λ k n h. rw (le-ltb n 10 h, lt-ltb (n % 10) 10 (omega arith)) }
+
+pub decimal_is : (n : ℕ) → n < 2 ^ 64 → std_decimal n ≡ decimal n
+unfolding decimal
+decimal_is n h = sym (decimal_from_appends decimal_in appends (suc n) n h (omega (arith, length-decimal-le_succ n h)))
+
+-- and its hex digits of a byte's halves
+hex_glyph : (d : ℕ) → d < 16 → digits 16 false d ≡ glyph d ∷ []
+unfolding glyph pick
+hex_glyph d h = rw (hex_one_digit false d h) (search rules)
+
+pub hex_is : (b : ℕ) → b < 256 → digits 16 false (b / 16) ++ digits 16 false (b % 16) ≡ hex_byte b
+unfolding hex_byte
+hex_is b h = rw (hex_glyph (b / 16) (omega arith), hex_glyph (b % 16) (omega arith))
+
+-- a space and std's digits are a space and ours
+pub spaced_is : (n : ℕ) → n < 2 ^ 64 → 32 ∷ std_decimal n ≡ spaced n
+unfolding spaced
+spaced_is n h = rw (decimal_is n h)
+
 -- how many digits there are, by the same two cases
 pub length_one : (n : ℕ) → n < 10 → length (decimal n) ≡ 1
 length_one n h = rw (decimal_one n h)
@@ -89,6 +118,12 @@ pub length_byte : (b : ℕ) → b < 256 → length (spaced b) ≤ 4
 unfolding spaced
 length_byte b h = omega (arith, decimal-length 2 b (omega arith))
 
+-- what is written for each byte is std's map of a list to the texts of its elements
+pub each_is : (f : ℕ → List ℕ) (bytes : List ℕ) → each f bytes ≡ flat_map f bytes
+unfolding each
+each_is f [] = refl
+each_is f (b ∷ bytes) = ap (λ (t : List ℕ). f b ++ t) (each_is f bytes)
+
 -- of two lists, and of one byte more
 pub Each-append : (f : ℕ → List ℕ) (a b : List ℕ) → each f (a ++ b) ≡ each f a ++ each f b
 unfolding each
@@ -99,6 +134,11 @@ pub Each-more : (f : ℕ → List ℕ) (bytes : List ℕ) (i : ℕ) → i < leng
     → each f (take (i + 1) bytes) ≡ each f (take i bytes) ++ f (get_or bytes i 0)
 unfolding each
 Each-more f bytes i h = rw (add-one, take-suc bytes i 0 h, Each-append, append-nil)
+
+-- and so of std's digits of one byte more
+pub spaced_more : (bytes : List ℕ) (i : ℕ) → i < length bytes → get_or bytes i 0 < 2 ^ 64
+    → each spaced (take (i + 1) bytes) ≡ each spaced (take i bytes) ++ (32 ∷ std_decimal (get_or bytes i 0))
+spaced_more bytes i h byte = rw (spaced_is _ byte) (Each-more spaced bytes i h)
 
 -- what a loop over bytes has put after one turn more: the bytes themselves, or what is written for each
 module _ {line mid after : List ℕ} {at end past : ℕ} (bytes : List ℕ) (i : ℕ) (h : i < length bytes) where

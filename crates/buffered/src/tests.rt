@@ -8,6 +8,7 @@ use std::test::Fail;
 #[derive(Drop)]
 struct Slow {
     failures: usize,
+    flushes: usize,
     taken: ArrayVec<u8, 32>,
 }
 
@@ -22,6 +23,7 @@ impl Write for Slow {
     }
 
     fn flush(&mut self) -> io::Result<()> {
+        self.flushes = self.flushes.wrapping_add(1);
         Ok(())
     }
 }
@@ -29,6 +31,7 @@ impl Write for Slow {
 fn to_slow(failures: usize) -> Buffered<Slow> {
     Buffered::new(Slow {
         failures,
+        flushes: 0,
         taken: ArrayVec::new(),
     })
 }
@@ -39,8 +42,10 @@ fn what_waits_is_handed_on_at_a_flush_and_at_the_end(rt: HostRuntime) -> Result<
     assert_eq!(rt; writer.write(b"plan ok 1")?, 9);
     assert!(rt; writer.out.taken.is_empty());
     writer.flush()?;
+    assert_eq!(rt; writer.out.flushes, 1);
     assert_eq!(rt; writer.out.taken.as_slice(), b"plan ok 1".as_slice());
-    assert_eq!(rt; writer.write(b" 2 3\n")?, 5);
+    assert_eq!(rt; writer.write(b" 2 ")?, 3);
+    assert_eq!(rt; writer.write(b"3\n")?, 2);
     assert_eq!(rt; writer.out.taken.as_slice(), b"plan ok 1".as_slice());
     let Slow { taken, .. } = writer.finish()?;
     assert_eq!(rt; taken.as_slice(), b"plan ok 1 2 3\n".as_slice());
@@ -51,7 +56,11 @@ fn what_waits_is_handed_on_at_a_flush_and_at_the_end(rt: HostRuntime) -> Result<
 fn a_write_that_fails_loses_nothing(rt: HostRuntime) -> Result<(), Fail> {
     let mut writer = to_slow(2);
     assert_eq!(rt; writer.write(b"tick 0\n")?, 7);
-    assert!(rt; writer.flush().is_err());
+    assert!(rt;
+        writer
+            .flush()
+            .is_err_and(|e| e.kind() == ErrorKind::TimedOut)
+    );
     assert!(rt; writer.flush().is_err());
     assert!(rt; writer.out.taken.is_empty());
     writer.flush()?;

@@ -12,7 +12,7 @@ use std::io::{self, ErrorKind, Write};
 #[cfg(test)]
 mod tests;
 
-// What waits goes when it is dropped: `finish` hands it on.
+// Gathers up to 65,536 bytes for the writer behind it. What waits goes when it is dropped: `finish` hands it on.
 #[derive(Drop)]
 pub struct Buffered<W: Write> {
     out: W,
@@ -20,6 +20,7 @@ pub struct Buffered<W: Write> {
 }
 
 impl<W: Write> Buffered<W> {
+    // Nothing waits at first. It cannot fail.
     pub fn new(out: W) -> Buffered<W>
         ensures out { inner result ≡ out }
         ensures bytes { waiting result ≡ [] }
@@ -40,7 +41,7 @@ impl<W: Write> Buffered<W> {
         Ok(n)
     }
 
-    // Hands on all that waits, and hands the writer back.
+    // Hands on all that waits, and hands the writer back. Where a write fails, its error is the answer, and what is left and the writer are let go.
     pub fn finish(self) -> io::Result<W>
     where
         W: Drop,
@@ -55,6 +56,7 @@ impl<W: Write> Buffered<W> {
 impl<W: Write> Write for Buffered<W> {
     ghost contents = { held W.contents };
 
+    // Takes as many of the bytes as there is room for. A full buffer is handed on first, in part; where that fails, nothing is taken and all still waits.
     fn write(&mut self, buf: &[u8]) -> io::Result<usize> {
         if self.bytes.is_full() {
             self.hand_on()?;
@@ -62,6 +64,7 @@ impl<W: Write> Write for Buffered<W> {
         self.bytes.write(buf)
     }
 
+    // Hands on all that waits. Where a write fails, or takes nothing (`WriteZero`), the rest still waits.
     fn flush(&mut self) -> io::Result<()> {
         while !self.bytes.is_empty() {
             if self.hand_on()? == 0 {

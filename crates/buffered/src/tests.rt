@@ -1,4 +1,4 @@
-// What no clause says: that the calls succeed, and what becomes of the bytes with a writer that takes few of them, fails once or takes none.
+// What no clause says: that the calls succeed, when bytes are handed on, that the writer behind is flushed, and what is told where it fails or takes none.
 use crate::Buffered;
 use arrayvec::ArrayVec;
 use std::io::{self, ErrorKind, Write};
